@@ -1,0 +1,7 @@
+pub mod Rows
+pub mod RowLaws
+pub mod Tables
+pub mod Places
+pub mod Opens
+pub mod Sessions
+pub mod Totals

@@ -1,0 +1,3 @@
+// What an operator is, and one operator after another.
+pub mod operator;
+pub mod pipe;
