@@ -10,7 +10,7 @@ use borrow.Rule.Slice.PartMut.{putMid}
 use lib.ListN.{length, getD, take, drop, set, length-append, length-drop, take-append-drop}
 use lib.Seq.{length-take-le, getD-take}
 use Rattle.std.proofs.shelf.Lists.{take-at, drop-at, drop-drop, take-more, take-more-set, getD-default, joined-more, append-nil}
-use Rattle.std.proofs.shelf.Tests.{cases-bool, cases-lt, both-ways}
+use Rattle.std.proofs.shelf.Tests.{cases-bool, both-ways}
 use Rattle.std.specs.Joined.{joined}
 use Rattle.std.specs.declared.option.Option.{Option}
 use Rattle.std.specs.declared.result.Result.{Result}
@@ -56,24 +56,6 @@ module _ {E : Type 0} (rank : E → ℕ) (sound : E → Bool) where
       orderly-from rank sound 0 (take n rows) (λ d k. omega arith)
       (λ j d k. ap sound (getD-take n rows j d (omega arith)) ∙ h .fit j d (omega arith))
       (λ j d k. let a = ap rank (getD-take n rows j d (omega arith)) in let b = ap rank (getD-take n rows (suc j) d (omega arith)) in let s = h .past j d (omega arith) in omega arith)
-
-  pub one-checked : (rows : List E) (i : ℕ) (b : E) → i < length rows → b ≡ getD rows i b → sound b ≡ true → ((d : E) → 0 < i → rank (getD rows (i - 1) d) < rank b) → Checked rows i → Checked rows (i + 1)
-  one-checked rows i b lt eb fit past h = record {
-    fit = λ j d l. elim (cases-lt j i) [
-      | inl less ↦ h .fit j d less
-      | inr more ↦ ap (λ k. sound (getD rows k d)) (let e : j ≡ i = omega arith in e) ∙ ap sound (getD-default rows i d b lt ∙ sym eb) ∙ fit
-    ];
-    past = λ j d l. elim (cases-lt (suc j) i) [
-      | inl less ↦ h .past j d less
-      | inr more ↦
-          let e : suc j ≡ i = omega arith in
-          let f : j ≡ i - 1 = omega arith in
-          let x = ap (λ k. rank (getD rows k d)) f in
-          let y = ap (λ k. rank (getD rows k d)) e ∙ ap rank (getD-default rows i d b lt ∙ sym eb) in
-          let p = past d (omega arith) in
-          omega arith
-    ];
-  }
 
 pub wrote-fits : (b o p : List ℕ) (r : Result (Unit {0}) WrongLength) → Wrote b o p r → length o ≡ length b → p ≡ b
 wrote-fits b o p (Ok _) w l = w .1

@@ -4,14 +4,14 @@ use mathlib.Core.Path.{_≡_, refl, sym, ap, subst, _∙_}
 use mathlib.Core.Bool.{Bool, true, false, cond}
 use mathlib.Core.List.{List, [], _∷_, _++_}
 use native.Mathlib.Omega.{arith}
-use lib.Dec.{leb, ltb, eqb}
+use lib.Dec.{ltb, eqb}
 use lib.ListN.{length, getD, take, drop, set}
 use lib.Seq.{length-take-le, getD-take}
-use Rattle.std.proofs.shelf.Tests.{lt-ltb, le-ltb, eq-eqb, ne-eqb, le-leb, lt-leb, cond-true, cond-false}
+use Rattle.std.proofs.shelf.Tests.{lt-ltb, le-ltb, eq-eqb, ne-eqb}
 use Rattle.std.specs.shelf.Lists.{inserted, removed}
 use Rattle.std.specs.declared.option.Option.{Option}
 use Rattle.std.specs.declared.option.Option.the-variants.{Some, None}
-use Rattle.line_operators.specs.Rows.{found, with-row, put-in, without}
+use Rattle.line_operators.specs.Rows.{found, with-row, without}
 use Rattle.line_operators.specs.Places.{Here, Place}
 
 module _ {E : Type 0} (rank : E → ℕ) where
@@ -70,10 +70,3 @@ module _ {E : Type 0} (rank : E → ℕ) where
       let P : ℕ → Type 0 = λ n. Place rank n i here xs in
       let Q : Bool → Type 0 = λ t. Place rank k i t xs in
       subst P e (subst Q h p)
-
-  -- a row that finds a place is put in, and one that finds none is not
-  pub put-fits : (most : ℕ) (e : E) (xs : List E) → length (with-row rank e xs) ≤ most → put-in rank most e xs ≡ with-row rank e xs
-  put-fits most e xs h = cond-true (leb (length (with-row rank e xs)) most) (with-row rank e xs) xs (le-leb (length (with-row rank e xs)) most h)
-
-  pub put-full : (most : ℕ) (e : E) (xs : List E) → most < length (with-row rank e xs) → put-in rank most e xs ≡ xs
-  put-full most e xs h = cond-false (leb (length (with-row rank e xs)) most) (with-row rank e xs) xs (lt-leb (length (with-row rank e xs)) most h)

@@ -30,10 +30,25 @@ Charges = Table charge-line billed 64
 abbrev pub none-charged : Charges
 none-charged = ([], tt)
 
+-- a line that has no charge has no calls and no seconds
+abbrev pub calls-so-far : Option Charge → ℕ
+calls-so-far None = 0
+calls-so-far (Some c) = c .calls
+
+abbrev pub seconds-so-far : Option Charge → ℕ
+seconds-so-far None = 0
+seconds-so-far (Some c) = c .seconds
+
+-- the largest numbers of calls and of seconds in a charge
+abbrev pub most-calls : ℕ
+most-calls = 4294967295
+
+abbrev pub most-seconds : ℕ
+most-seconds = 18446744073709551615
+
 -- a line's charge with a call more, each number stopping at its largest value
 abbrev pub raised : Option Charge → ℕ → ℕ → Charge
-raised None line seconds = record { line = line; calls = 1; seconds = seconds }
-raised (Some c) line seconds = record { line = line; calls = min (c .calls + 1) 4294967295; seconds = min (c .seconds + seconds) 18446744073709551615 }
+raised o line seconds = record { line = line; calls = min (calls-so-far o + 1) most-calls; seconds = min (seconds-so-far o + seconds) most-seconds }
 
 abbrev pub charge-with : Call → List Charge → Charge
 charge-with v xs = raised (found charge-line (v .line) xs) (v .line) (v .seconds)
@@ -43,8 +58,7 @@ abbrev pub charged : Charge → List Charge → List Charge
 charged c xs = cond (leb (length (with-row charge-line c xs)) 64) (c ∷ []) []
 
 pub raised-billed : (o : Option Charge) (line seconds : ℕ) → billed (raised o line seconds) ≡ true
-raised-billed None line seconds = lt-ltb 0 1 (omega arith)
-raised-billed (Some c) line seconds = lt-ltb 0 (min (c .calls + 1) 4294967295) (omega arith)
+raised-billed o line seconds = lt-ltb 0 (min (calls-so-far o + 1) most-calls) (omega arith)
 
 abbrev pub totals-next : Charges → Call → Charges
 totals-next s v = (

@@ -37,18 +37,14 @@ const UNUSED: Charge = Charge {
 fn raise(charge: Option<Charge>, call: Call) -> Charge
     ensures { λ r. ⌜ r ≡ raised charge (call .line) (call .seconds) ⌝ }
 {
-    let seconds = u64::from(call.seconds);
-    match charge {
-        Some(charge) => Charge {
-            line: call.line,
-            calls: charge.calls.saturating_add(1),
-            seconds: charge.seconds.saturating_add(seconds),
-        },
-        None => Charge {
-            line: call.line,
-            calls: 1,
-            seconds,
-        },
+    let (calls, seconds) = match charge {
+        Some(charge) => (charge.calls, charge.seconds),
+        None => (0, 0),
+    };
+    Charge {
+        line: call.line,
+        calls: calls.saturating_add(1),
+        seconds: seconds.saturating_add(u64::from(call.seconds)),
     }
 }
 
