@@ -14,9 +14,6 @@ use Rattle.std.specs.declared.result.Result.{Result}
 use Rattle.std.specs.declared.result.Result.the-variants.{Ok, Err}
 
 pub record Lawful {A : Type 0} (size : ℕ) (bytes : A → List ℕ) (value : List ℕ → Option A) : Type 0 where
-  -- at least one byte and at most forty
-  pub some : 1 ≤ size
-  pub most : size ≤ 40
   -- every value writes so many
   pub long : (x : A) → length (bytes x) ≡ size
   -- what a value writes reads back as that value
@@ -73,10 +70,8 @@ module _ {A : Type 0} (bytes : A → List ℕ) (guess : List ℕ → A) where
       go false h f = absurd (let z : _≡_ {A = ℕ} 0 1 = cc in omega arith)
 
   -- a guess that is right of every value's own bytes makes a body kind
-  pub lawful-by : (size : ℕ) → 1 ≤ size → size ≤ 40 → ((x : A) → length (bytes x) ≡ size) → ((x : A) → guess (bytes x) ≡ x) → Lawful size bytes value-by
-  lawful-by size some most long right = record {
-    some = some;
-    most = most;
+  pub lawful-by : (size : ℕ) → ((x : A) → length (bytes x) ≡ size) → ((x : A) → guess (bytes x) ≡ x) → Lawful size bytes value-by
+  lawful-by size long right = record {
     long = long;
     back = value-back right;
     only = value-only;

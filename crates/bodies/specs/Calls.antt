@@ -21,5 +21,5 @@ call-value = value-by call-bytes call-guess
 
 pub call-laws : Lawful 8 call-bytes call-value
 call-laws =
-    lawful-by call-bytes call-guess 8 (omega arith) (omega arith) (λ x. refl)
+    lawful-by call-bytes call-guess 8 (λ x. refl)
     (λ x i. record { line = worth32 (x .line) i; seconds = worth32 (x .seconds) i })

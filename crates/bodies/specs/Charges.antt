@@ -21,5 +21,5 @@ charge-value = value-by charge-bytes charge-guess
 
 pub charge-laws : Lawful 16 charge-bytes charge-value
 charge-laws =
-    lawful-by charge-bytes charge-guess 16 (omega arith) (omega arith) (λ x. refl)
+    lawful-by charge-bytes charge-guess 16 (λ x. refl)
     (λ x i. record { line = worth32 (x .line) i; calls = worth32 (x .calls) i; seconds = worth64 (x .seconds) i })

@@ -33,5 +33,5 @@ kind-back End = refl
 
 pub event-laws : Lawful 9 event-bytes event-value
 event-laws =
-    lawful-by event-bytes event-guess 9 (omega arith) (omega arith) (λ x. refl)
+    lawful-by event-bytes event-guess 9 (λ x. refl)
     (λ x i. record { line = worth32 (x .line) i; stamp = worth32 (x .stamp) i; kind = kind-back (x .kind) i })

@@ -1,6 +1,6 @@
 ghost use mathlib.Core.Path.{_≡_};
 ghost use mathlib.Core.List.{List};
-ghost use Prim.Native.Nat.{ℕ};
+ghost use Prim.Native.Nat.{ℕ, _≤_};
 ghost use Rattle.std.specs.declared.option.Option.{Option};
 ghost use Rattle.bodies.specs.Bodies.{Lawful, Wrote};
 
@@ -21,8 +21,10 @@ pub trait Body: Copy {
 
     ghost laws: { Lawful size bytes value };
 
+    // That length, of 1 to 40 bytes.
     fn size() -> usize
-        ensures { λ r. ⌜ r ≡ size ⌝ };
+        ensures is { λ r. ⌜ r ≡ size ⌝ }
+        ensures bounds { λ r. ⌜ (1 ≤ r) × (r ≤ 40) ⌝ };
 
     // Writes over lent bytes of just that number; else they stay.
     fn write(&self, out: &mut [u8]) -> Result<(), WrongLength>

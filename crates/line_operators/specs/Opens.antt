@@ -21,5 +21,5 @@ open-value = value-by open-bytes open-guess
 
 pub open-laws : Lawful 8 open-bytes open-value
 open-laws =
-    lawful-by open-bytes open-guess 8 (omega arith) (omega arith) (λ x. refl)
+    lawful-by open-bytes open-guess 8 (λ x. refl)
     (λ x i. record { line = worth32 (x .line) i; stamp = worth32 (x .stamp) i })

@@ -28,7 +28,7 @@ returns-then-rest-size g c xs few w =
     let l = length-take-le i (c .loop-i .rows) (omega arith) in
     let next = next-row (g .E·Body .laws) ys xs i (c .loop-i .rest .now) l (omega arith) (c .loop-i .inv ∙ sym (ap (drop 1) w)) in
     let e = next .enough in
-    omega (arith, c .if-rest-size .taken, c .size-size .ensures)
+    omega (arith, c .if-rest-size .taken, c .size-size .ensures .is)
 
 pub returns-in-rest-read : need.returns-in-rest-read
 returns-in-rest-read g c xs few w =
@@ -37,7 +37,7 @@ returns-in-rest-read g c xs few w =
     let count : length xs ≡ getD (c .args .from .now) 0 0 = ap (λ l. getD l 0 0) w in
     let l = length-take-le i (c .loop-i .rows) (omega arith) in
     let next = next-row (g .E·Body .laws) ys xs i (c .loop-i .rest .now) l (omega arith) (c .loop-i .inv ∙ sym (ap (drop 1) w)) in
-    let front : g .E·Body .bytes (next .row) ≡ c .split-at .result .0 .now = next .spelled ∙ ap (λ k. take k (c .loop-i .rest .now)) (sym (c .size-size .ensures)) ∙ sym (c .split-at .ensures .front) in
+    let front : g .E·Body .bytes (next .row) ≡ c .split-at .result .0 .now = next .spelled ∙ ap (λ k. take k (c .loop-i .rest .now)) (sym (c .size-size .ensures .is)) ∙ sym (c .split-at .ensures .front) in
     let some = g .E·Body .laws .back (next .row) in
     let none = c .in-rest-read .ensures tt in
     let z : _≡_ {A = ℕ} 0 1 = cc (ap (g .E·Body .value) front) in

@@ -27,26 +27,26 @@ part-long xs at size h = let d = length-drop at xs in length-take-le (at + size 
 pub returns-then-out-length : need.returns-then-out-length
 returns-then-out-length g c =
     let l = listed (g .E·Body .laws) (c .args .rows .now) (c .args .count) (c .pre .0) in
-    let p = ap (λ m. c .args .count * m) (c .size-size .ensures) in
+    let p = ap (λ m. c .args .count * m) (c .size-size .ensures .is) in
     record { laid = refl; refused = λ none. omega (arith, c .if-out-length .taken) }
 
 pub add-at : need.add-at
 add-at g c =
     let r = room (g .E·Body .laws) (c .args .rows .now) (c .loop-i .i) (c .args .count) (c .loop-i-test .taken) (c .pre .0) in
-    let h = ends (c .loop-i .at) _ (c .size-size .result) _ (c .args .count) (length (c .args .out .now)) (c .loop-i .inv .0) r (c .size-size .ensures) (c .if-out-length .left) in
+    let h = ends (c .loop-i .at) _ (c .size-size .result) _ (c .args .count) (length (c .args .out .now)) (c .loop-i .inv .0) r (c .size-size .ensures .is) (c .if-out-length .left) in
     search needs
 
 pub part-write-end : need.part-write-end
 part-write-end g c =
     let r = room (g .E·Body .laws) (c .args .rows .now) (c .loop-i .i) (c .args .count) (c .loop-i-test .taken) (c .pre .0) in
-    let h = ends (c .loop-i .at) _ (c .size-size .result) _ (c .args .count) (length (c .args .out .now)) (c .loop-i .inv .0) r (c .size-size .ensures) (c .if-out-length .left) in
+    let h = ends (c .loop-i .at) _ (c .size-size .result) _ (c .args .count) (length (c .args .out .now)) (c .loop-i .inv .0) r (c .size-size .ensures .is) (c .if-out-length .left) in
     let k : length (c .loop-i .out) ≡ length (c .args .out .now) = c .loop-i .kept .out ∙ length-set (c .args .out .now) 0 (c .args .count) in
     search needs
 
 pub add-at-in-loop-i : need.add-at-in-loop-i
 add-at-in-loop-i g c =
     let r = room (g .E·Body .laws) (c .args .rows .now) (c .loop-i .i) (c .args .count) (c .loop-i-test .taken) (c .pre .0) in
-    let h = ends (c .loop-i .at) _ (c .size-size .result) _ (c .args .count) (length (c .args .out .now)) (c .loop-i .inv .0) r (c .size-size .ensures) (c .if-out-length .left) in
+    let h = ends (c .loop-i .at) _ (c .size-size .result) _ (c .args .count) (length (c .args .out .now)) (c .loop-i .inv .0) r (c .size-size .ensures .is) (c .if-out-length .left) in
     search needs
 
 pub loop-i-again : need.loop-i-again
@@ -61,11 +61,11 @@ loop-i-again g c =
     let O = set (c .args .out .now) 0 (c .args .count) in
     let J = joined bytes (take i rows) in
     let r = room laws rows i (c .args .count) (c .loop-i-test .taken) (c .pre .0) in
-    let h = ends at (length J) size (g .E·Body .size) (c .args .count) (length (c .args .out .now)) (c .loop-i .inv .0) r (c .size-size .ensures) (c .if-out-length .left) in
+    let h = ends at (length J) size (g .E·Body .size) (c .args .count) (length (c .args .out .now)) (c .loop-i .inv .0) r (c .size-size .ensures .is) (c .if-out-length .left) in
     let lo : length O ≡ length (c .args .out .now) = length-set (c .args .out .now) 0 (c .args .count) in
     let lw : length (c .loop-i .out) ≡ length O = c .loop-i .kept .out in
     let long = laws .long x in
-    let w : c .write .last .out ≡ bytes x = wrote-fits (bytes x) (take (at + size - at) (drop at (c .loop-i .out))) _ _ (c .write .ensures) (part-long (c .loop-i .out) at size (omega arith) ∙ c .size-size .ensures ∙ sym long) in
+    let w : c .write .last .out ≡ bytes x = wrote-fits (bytes x) (take (at + size - at) (drop at (c .loop-i .out))) _ _ (c .write .ensures) (part-long (c .loop-i .out) at size (omega arith) ∙ c .size-size .ensures .is ∙ sym long) in
     let more : joined bytes (take (i + 1) rows) ≡ J ++ bytes x = joined-next laws rows i x (omega arith) (c .index-rows-i .is) in
     let ml = ap length more ∙ length-append J (bytes x) in
     (omega arith, wrote-more O (c .loop-i .out) (c .write .last .out) J (bytes x) at size (at + size - at) (c .loop-i .inv .0) (omega arith) (c .loop-i .inv .1) w (omega arith) ∙ ap (λ l. (take 1 O ++ l) ++ drop (at + size) O) (sym more))
@@ -78,7 +78,7 @@ returns g c =
     let out = c .args .out .now in
     let i : c .loop-i .i ≡ n = omega arith in
     let l = listed (g .E·Body .laws) rows n (c .pre .0) in
-    let p = ap (λ m. n * m) (c .size-size .ensures) in
+    let p = ap (λ m. n * m) (c .size-size .ensures .is) in
     let j = ap (λ k. length (joined bytes (take k rows))) i in
     let at : c .loop-i .at ≡ 1 + n * c .size-size .result = omega arith in
     let first : take 1 (set out 0 n) ≡ length (take n rows) ∷ [] = starts out n (omega arith) ∙ ap (λ k. k ∷ []) (sym (length-take-le n rows (c .pre .0))) in
