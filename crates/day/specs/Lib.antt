@@ -1,0 +1,5 @@
+pub mod Events
+pub mod Texts
+pub mod Bills
+pub mod Sums
+pub mod Days

@@ -1,0 +1,14 @@
+-- How a bill's lines are written.
+use Prim.Native.Nat.{ℕ}
+use mathlib.Core.List.{List, _++_}
+use lib.Chars.{codes}
+use Rattle.std.specs.Written.{decimal}
+use Rattle.day.specs.declared.entry.Entry.{Entry}
+use Rattle.day.specs.declared.entry.Entry.the-variants as entry
+
+abbrev pub entry-text : Entry → List ℕ
+entry-text (entry.Call c) = codes "call " ++ (decimal (c .line) ++ (codes " " ++ decimal (c .seconds)))
+entry-text (entry.Charge g) = codes "charge " ++ (decimal (g .line) ++ (codes " " ++ (decimal (g .calls) ++ (codes " " ++ decimal (g .seconds)))))
+
+abbrev pub total-text : ℕ → ℕ → List ℕ
+total-text calls seconds = codes "total " ++ (decimal calls ++ (codes " " ++ decimal seconds))

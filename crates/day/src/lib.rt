@@ -1,0 +1,5 @@
+// A day of calls: from a script of begins and ends to a bill.
+pub mod bill;
+pub mod entry;
+pub mod event_line;
+pub mod unbilled;
