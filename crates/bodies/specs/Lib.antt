@@ -4,4 +4,3 @@ pub mod Events
 pub mod Calls
 pub mod Charges
 pub mod Weights
-pub mod Messages

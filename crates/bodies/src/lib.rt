@@ -1,8 +1,7 @@
-// What travels between the units: numbers in bytes, the body kinds, and messages with their weights.
+// The body kinds, numbers in bytes, and weights.
 pub mod body;
 pub mod call;
 pub mod charge;
 pub mod event;
-pub mod message;
 pub mod numbers;
 pub mod weight;

@@ -1,7 +1,7 @@
-use bodies::message::Message;
-use bodies::message::Unwritten;
-use bodies::message::UnwrittenDebug;
-use bodies::message::UnwrittenPartialEq;
+use messages::message::Message;
+use messages::message::Unwritten;
+use messages::message::UnwrittenDebug;
+use messages::message::UnwrittenPartialEq;
 use std::test::*;
 
 #[test]

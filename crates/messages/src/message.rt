@@ -3,13 +3,13 @@ ghost use mathlib.Core.List.{List, _++_};
 ghost use Prim.Native.Nat.{ℕ, _<_};
 ghost use lib.ListN.{length};
 ghost use Rattle.std.specs.Options.{Cases};
-ghost use Rattle.bodies.specs.Messages.{Msg, says, body-of, kind-of, version-of, number-of, weight-of, message-bytes, Short, Fields, MessageWrote, OneMessage};
-use super::numbers::get16;
-use super::numbers::get32;
-use super::numbers::put16;
-use super::numbers::put32;
-use super::weight::HEADER_LENGTH;
-use super::weight::LONGEST_BODY;
+ghost use Rattle.messages.specs.Messages.{Msg, says, body-of, kind-of, version-of, number-of, weight-of, message-bytes, Short, Fields, MessageWrote, OneMessage};
+use bodies::numbers::get16;
+use bodies::numbers::get32;
+use bodies::numbers::put16;
+use bodies::numbers::put32;
+use bodies::weight::HEADER_LENGTH;
+use bodies::weight::LONGEST_BODY;
 
 // Why a message was not written.
 #[derive(Clone, Copy, PartialEq, Debug)]

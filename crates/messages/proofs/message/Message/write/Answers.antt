@@ -6,9 +6,9 @@ use native.Mathlib.Omega.{arith}
 use borrow.Rule.Slice.PartMut.{putMid, postOf}
 use lib.ListN.{length, getD, take, drop, length-append, length-drop}
 use Rattle.std.proofs.shelf.Lists.{take-at, drop-at, drop-all, append-nil}
-use Rattle.bodies.specs.Messages.{says, body-of, kind-of, version-of, number-of}
+use Rattle.messages.specs.Messages.{says, body-of, kind-of, version-of, number-of}
 use Rattle.bodies.specs.Numbers.{be16, be32}
-use Rattle.bodies.proofs.message.Message.write.Needs as need
+use Rattle.messages.proofs.message.Message.write.Needs as need
 
 -- a header put over the first bytes, and a body over all the others
 laid : (out x y h b : List ℕ) (k : ℕ) → x ≡ h → y ≡ b → length h ≡ 8 → k ≡ length (x ++ postOf 0 8 out) - 8 → putMid 8 k (x ++ postOf 0 8 out) y ≡ h ++ b

@@ -4,8 +4,8 @@ use mathlib.Core.List.{[], _++_}
 use lib.ListN.{length}
 use Rattle.std.proofs.shelf.Lists.{append-nil, nil-from-length}
 use Rattle.std.proofs.shelf.Tests.{eqb-true, eqb-false}
-use Rattle.bodies.specs.Messages.{says, message-bytes, one-message}
-use Rattle.bodies.proofs.message.Message.read.Needs as need
+use Rattle.messages.specs.Messages.{says, message-bytes, one-message}
+use Rattle.messages.proofs.message.Message.read.Needs as need
 
 pub returns-in-rest : need.returns-in-rest
 returns-in-rest c = record { one = one-message; exact = λ m short e. c .in-rest .ensures tt .exact m [] short (append-nil (message-bytes m) ∙ e) }

@@ -11,12 +11,12 @@ use Rattle.std.specs.declared.option.Option.{Option}
 use Rattle.std.specs.declared.option.Option.the-variants.{Some, None}
 use Rattle.std.specs.declared.result.Result.{Result as Answer}
 use Rattle.std.specs.declared.result.Result.the-variants.{Ok, Err}
-use Rattle.bodies.specs.declared.message.Unwritten.{Unwritten}
-use Rattle.bodies.specs.declared.message.Unwritten.the-variants.{LongBody, WrongLength}
-use Rattle.bodies.specs.declared.message.Message.{Message}
-use Rattle.bodies.specs.declared.message.Message.the-variants as case
+use Rattle.messages.specs.declared.message.Unwritten.{Unwritten}
+use Rattle.messages.specs.declared.message.Unwritten.the-variants.{LongBody, WrongLength}
+use Rattle.messages.specs.declared.message.Message.{Message}
+use Rattle.messages.specs.declared.message.Message.the-variants as case
 use Rattle.bodies.specs.Numbers.{be16, be32, worth, worth16, worth32}
 use Rattle.bodies.specs.Weights.{weigh, longest-body}
 
 -- a message by what it says: a record or result by its number and body, an ack by the number acknowledged,
 -- a csync or psync by its version

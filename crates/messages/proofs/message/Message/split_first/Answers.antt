@@ -6,10 +6,10 @@ use Prim.Native.Nat.{ℕ, _-_, _<_, _≤_}
 use native.Mathlib.Omega.{arith}
 use lib.ListN.{length, getD, take, drop, take-append-drop}
 use Rattle.std.proofs.shelf.Lists.{take-rest}
 use Rattle.bodies.specs.Numbers.{be16, be32, worth, worth16, worth32}
-use Rattle.bodies.specs.Messages.{Msg, Fields, message-bytes, body-of, begins, one-message}
+use Rattle.messages.specs.Messages.{Msg, Fields, message-bytes, body-of, begins, one-message}
 use Rattle.bodies.proofs.Heads.{front, cut}
-use Rattle.bodies.proofs.message.Message.split_first.Needs as need
+use Rattle.messages.proofs.message.Message.split_first.Needs as need
 
 -- eight bytes and those behind are the fields that were read from them
 spelt : (m : Msg) (xs body more : List ℕ) (v n : ℕ) → 8 ≤ length xs → Fields m (getD xs 0 0) v n body → be16 v ≡ getD xs 2 0 ∷ getD xs 3 0 ∷ [] → be32 n ≡ getD xs 4 0 ∷ getD xs 5 0 ∷ getD xs 6 0 ∷ getD xs 7 0 ∷ [] → length body ≡ getD xs 1 0 → body ++ more ≡ take (length xs - 8) (drop 8 xs) → message-bytes m ++ more ≡ xs

@@ -1,0 +1,2 @@
+// What the units tell each other, in bytes.
+pub mod message;
