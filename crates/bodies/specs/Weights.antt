@@ -9,6 +9,6 @@ header-length = 8
 abbrev pub weigh : ℕ → ℕ
 weigh n = header-length + n
 
--- the longest body
+-- no body is longer
 abbrev pub longest-body : ℕ
 longest-body = 40

@@ -3,6 +3,7 @@ ghost use mathlib.Core.List.{List};
 ghost use Prim.Native.Nat.{ℕ, _≤_};
 ghost use Rattle.std.specs.declared.option.Option.{Option};
 ghost use Rattle.bodies.specs.Bodies.{Lawful, Wrote};
+ghost use Rattle.bodies.specs.Weights.{longest-body};
 
 // Lent bytes of another number than those to be written.
 #[derive(Clone, Copy, PartialEq, Debug)]
@@ -24,7 +25,7 @@ pub trait Body: Copy {
     // That length, of 1 to 40 bytes.
     fn size() -> usize
         ensures is { λ r. ⌜ r ≡ size ⌝ }
-        ensures bounds { λ r. ⌜ (1 ≤ r) × (r ≤ 40) ⌝ };
+        ensures bounds { λ r. ⌜ (1 ≤ r) × (r ≤ longest-body) ⌝ };
 
     // Writes over lent bytes of just that number; else they stay.
     fn write(&self, out: &mut [u8]) -> Result<(), WrongLength>

@@ -5,9 +5,6 @@ use super::body::Body;
 // The bytes of a header, which a message or a buffer's entry weighs beside its body.
 pub const HEADER_LENGTH: usize = 8;
 
-// The longest body of any kind.
-pub const LONGEST_BODY: usize = 40;
-
 // What a message or a buffer's entry of this kind weighs.
 pub fn entry_weight<B: Body>() -> usize
     ensures { λ r. ⌜ r ≡ weigh (B·Body .size) ⌝ }

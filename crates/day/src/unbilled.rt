@@ -26,7 +26,10 @@ pub impl From<AllocError> for Unbilled as UnbilledFromAlloc {
 pub impl Display for Unbilled as UnbilledDisplay {
     fn fmt<W: fmt::Write>(&self, f: &mut fmt::Formatter<W>) -> fmt::Result {
         match self {
-            Unbilled::TooLong => write!(f, "the script has over 65536 bytes; nothing was billed"),
+            Unbilled::TooLong => write!(
+                f,
+                "the script has over {LONGEST_SCRIPT} bytes; nothing was billed"
+            ),
             Unbilled::Memory => write!(f, "no memory; nothing was billed"),
         }
     }

@@ -31,6 +31,9 @@ pub struct Sessions {
     ghost ordered: { orderly open-line any-open 0 (take count rows) ≡ true },
 }
 
+// What stands in the places past the open lines; it has no meaning.
+const UNUSED: Open = Open { line: 0, stamp: 0 };
+
 // The seconds from a begin to an end, on a clock that starts again at 4,294,967,296.
 pub fn seconds_between(begin: u32, end: u32) -> u32
     ensures is { λ r. ⌜ r ≡ seconds-between begin end ⌝ }
@@ -87,7 +90,7 @@ pub impl Operator for Sessions as SessionsOperator {
 
     fn start() -> Sessions {
         Sessions {
-            rows: [Open { line: 0, stamp: 0 }; 32],
+            rows: [UNUSED; 32],
             count: 0,
         }
     }
@@ -111,7 +114,7 @@ pub impl Operator for Sessions as SessionsOperator {
     }
 
     fn read_state(from: &[u8]) -> Option<Sessions> {
-        let mut rows = [Open { line: 0, stamp: 0 }; 32];
+        let mut rows = [UNUSED; 32];
         let count = read_rows(from, &mut rows)?;
         if !in_order(&rows, count) {
             return None;

@@ -27,6 +27,7 @@ pub struct Totals {
     ghost ordered: { orderly charge-line billed 0 (take count rows) ≡ true },
 }
 
+// What stands in the places past the charges; it has no meaning.
 const UNUSED: Charge = Charge {
     line: 0,
     calls: 0,

@@ -9,7 +9,9 @@ use bodies::numbers::get32;
 use bodies::numbers::put16;
 use bodies::numbers::put32;
 use bodies::weight::HEADER_LENGTH;
-use bodies::weight::LONGEST_BODY;
+
+// The longest body.
+pub const LONGEST_BODY: usize = 40;
 
 // Why a message was not written.
 #[derive(Clone, Copy, PartialEq, Debug)]
