@@ -11,8 +11,8 @@ use super::open::OpenBody;
 use super::open::OpenRow;
 use super::table::change::put;
 use super::table::change::remove;
-use super::table::listing::in_order;
 use super::table::listing::read_rows;
+use super::table::listing::rows_length;
 use super::table::listing::write_rows;
 use bodies::call::Call;
 use bodies::call::CallBody;
@@ -106,7 +106,7 @@ pub impl Operator for Sessions as SessionsOperator {
     }
 
     fn state_length(&self) -> usize {
-        1 + 8 * self.count
+        rows_length(&self.rows, self.count)
     }
 
     fn write_state(&self, out: &mut [u8]) -> Option<usize> {
@@ -116,9 +116,6 @@ pub impl Operator for Sessions as SessionsOperator {
     fn read_state(from: &[u8]) -> Option<Sessions> {
         let mut rows = [UNUSED; 32];
         let count = read_rows(from, &mut rows)?;
-        if !in_order(&rows, count) {
-            return None;
-        }
         Some(Sessions { rows, count })
     }
 }

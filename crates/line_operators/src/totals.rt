@@ -7,8 +7,8 @@ ghost use Rattle.line_operators.specs.Tables.{table-of};
 ghost use Rattle.line_operators.specs.Totals.{Charges, charge-line, billed, raised, none-charged, totals-next, totals-gives, totals-written, totals-laws};
 use super::charge_row::ChargeRow;
 use super::table::change::put;
-use super::table::listing::in_order;
 use super::table::listing::read_rows;
+use super::table::listing::rows_length;
 use super::table::listing::write_rows;
 use super::table::place::find;
 use bodies::call::Call;
@@ -90,7 +90,7 @@ pub impl Operator for Totals as TotalsOperator {
     }
 
     fn state_length(&self) -> usize {
-        1 + 16 * self.count
+        rows_length(&self.rows, self.count)
     }
 
     fn write_state(&self, out: &mut [u8]) -> Option<usize> {
@@ -100,9 +100,6 @@ pub impl Operator for Totals as TotalsOperator {
     fn read_state(from: &[u8]) -> Option<Totals> {
         let mut rows = [UNUSED; 64];
         let count = read_rows(from, &mut rows)?;
-        if !in_order(&rows, count) {
-            return None;
-        }
         Some(Totals { rows, count })
     }
 }

@@ -1,4 +1,5 @@
 ghost use mathlib.Core.Path.{_≡_};
+ghost use mathlib.Core.Bool.{true};
 ghost use mathlib.Core.List.{List};
 ghost use Prim.Native.Nat.{_<_, _≤_};
 ghost use lib.ListN.{length, take};
@@ -9,7 +10,7 @@ ghost use Rattle.line_operators.specs.Rows.{orderly, listing as listed};
 use super::Row;
 
 // Whether the first rows are sound and rise by their keys.
-pub fn in_order<E: Row>(rows: &[E], count: usize) -> bool
+fn in_order<E: Row>(rows: &[E], count: usize) -> bool
     requires { ⌜ count ≤ length (now rows) ⌝ }
     ensures { λ r. ⌜ r ≡ orderly (λ e. E·Row .rank (E·Row .key e)) (E·Row .sound) 0 (take count (now (rows .entry))) ⌝ }
 {
@@ -22,6 +23,14 @@ pub fn in_order<E: Row>(rows: &[E], count: usize) -> bool
         }
     }
     true
+}
+
+// How many bytes a count byte and the first rows are.
+pub fn rows_length<E: Row>(rows: &[E], count: usize) -> usize
+    requires { ⌜ (count ≤ length (now rows)) × (count ≤ 255) ⌝ }
+    ensures { λ r. ⌜ r ≡ length (listed (E·Body .bytes) (take count (now (rows .entry)))) ⌝ }
+{
+    1 + count * E::size()
 }
 
 // Writes a count byte and the first rows over the first of the lent bytes, and answers how many bytes.
@@ -45,7 +54,7 @@ pub fn write_rows<E: Row>(rows: &[E], count: usize, out: &mut [u8]) -> Option<us
 }
 
 // Reads a count byte and as many rows over the first of some, whatever their order; refused are bytes that no such rows write.
-pub fn read_rows<E: Row>(from: &[u8], rows: &mut [E]) -> Option<usize>
+fn read_unordered<E: Row>(from: &[u8], rows: &mut [E]) -> Option<usize>
     ensures { λ r. ⌜ Cases r ((xs : List E) → length xs ≤ length (now (rows .entry)) → listed (E·Body .bytes) xs ≡ now (from .entry) → ⊥) (λ n. (n ≤ length (now (rows .entry))) × (listed (E·Body .bytes) (take n (now (rows .exit))) ≡ now (from .entry))) ⌝ }
 {
     let [n, tail @ ..] = from else {
@@ -69,6 +78,19 @@ pub fn read_rows<E: Row>(from: &[u8], rows: &mut [E]) -> Option<usize>
         rest = back;
     }
     if !rest.is_empty() {
+        return None;
+    }
+    Some(count)
+}
+
+// Reads a count byte and as many rows over the first of some; refused are bytes that no rows in order write.
+pub fn read_rows<E: Row>(from: &[u8], rows: &mut [E]) -> Option<usize>
+    ensures { λ r. ⌜ Cases r ((xs : List E) → length xs ≤ length (now (rows .entry)) → orderly (λ e. E·Row .rank (E·Row .key e)) (E·Row .sound) 0 xs ≡ true → listed (E·Body .bytes) xs ≡ now (from .entry) → ⊥) (λ n. (n ≤ length (now (rows .entry))) × (orderly (λ e. E·Row .rank (E·Row .key e)) (E·Row .sound) 0 (take n (now (rows .exit))) ≡ true) × (listed (E·Body .bytes) (take n (now (rows .exit))) ≡ now (from .entry))) ⌝ }
+{
+    let Some(count) = read_unordered(from, rows) else {
+        return None;
+    };
+    if !in_order(rows, count) {
         return None;
     }
     Some(count)
