@@ -1,6 +1,6 @@
 use day::bill::Bill;
-use day::bill::TotalDisplay;
 use day::bill::bill_day;
+use day::ending::EndingDisplay;
 use day::entry::EntryDisplay;
 use day::unbilled::LONGEST_SCRIPT;
 use day::unbilled::UnbilledDebug;
@@ -22,13 +22,8 @@ fn print_bill(rt: &LibcRuntime, bill: &Bill) -> Result<(), AnyError> {
     for entry in bill.entries.iter() {
         println!(rt, "{entry}")?;
     }
-    match bill.bad {
-        Some(line) => println!(rt, "bad {line}")?,
-        None => {
-            let total = bill.total();
-            println!(rt, "{total}")?
-        }
-    }
+    let ending = bill.ending();
+    println!(rt, "{ending}")?;
     Ok(())
 }
 

@@ -3,3 +3,4 @@ pub mod Texts
 pub mod Bills
 pub mod Sums
 pub mod Days
+pub mod Endings

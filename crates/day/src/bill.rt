@@ -4,12 +4,13 @@ ghost use Rattle.std.specs.Of.Vec.{vec-items};
 ghost use Rattle.std.specs.Vec.{made};
 ghost use Rattle.operators.specs.Operators.{listed};
 ghost use Rattle.day.specs.Bills.{Billed, shown};
-ghost use Rattle.std.specs.declared.option.Option.the-variants.{Some};
-ghost use Rattle.day.specs.Texts.{total-text};
+ghost use Rattle.day.specs.Endings.{Ends};
 ghost use Rattle.day.specs.Sums.{Totalled};
 ghost use Rattle.day.specs.Days.{DayBilled, Refused};
 ghost use Rattle.std.specs.Results.{Cases};
 ghost use lib.ListN.{length};
+use super::ending::Ending;
+use super::ending::Total;
 use super::entry::Entry;
 use super::event_line::read_event;
 use super::unbilled::LONGEST_SCRIPT;
@@ -28,24 +29,6 @@ use operators::pipe::PipeOperator;
 use script::split_line;
 use std::alloc::AllocError;
 use std::alloc::Global;
-use std::fmt;
-use std::fmt::Display;
-
-// All calls of a bill, and their seconds together, which stop at their largest value.
-#[derive(Clone, Copy, PartialEq, Debug)]
-pub struct Total {
-    pub calls: usize,
-    pub seconds: u64,
-}
-
-pub impl Display for Total as TotalDisplay {
-    ghost shown = { λ t. Some (total-text (t .calls) (t .seconds)) };
-
-    fn fmt<W: fmt::Write>(&self, f: &mut fmt::Formatter<W>) -> fmt::Result {
-        let Total { calls, seconds } = *self;
-        write!(f, "total {calls} {seconds}")
-    }
-}
 
 // What was billed, and the number of the first bad line, where the day ended early.
 #[derive(Drop)]
@@ -67,6 +50,16 @@ impl Bill {
             }
         }
         Total { calls, seconds }
+    }
+
+    // The bill's last line.
+    pub fn ending(&self) -> Ending
+        ensures { λ r. ⌜ Ends (vec-items (now (self .entry) .entries)) (now (self .entry) .bad) r ⌝ }
+    {
+        match self.bad {
+            Some(line) => Ending::Bad { line },
+            None => Ending::Total(self.total()),
+        }
     }
 }
 

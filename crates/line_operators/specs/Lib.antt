@@ -5,6 +5,5 @@ pub mod Places
 pub mod Opens
 pub mod Sessions
 pub mod Totals
-pub mod Finds
 pub mod SessionsLaw
 pub mod TotalsLaw

@@ -1,12 +1,18 @@
-ghost use Rattle.line_operators.specs.SessionsLaw.{OwnBegin};
-ghost use Rattle.line_operators.specs.TotalsLaw.{SoFar};
+ghost use Rattle.line_operators.specs.SessionsLaw.{OwnBegin, Once, Begun};
+ghost use Rattle.line_operators.specs.TotalsLaw.{SoFar, Given};
 
-// What Sessions gives on an end is that line's own begin, whatever other lines did between.
-pub fn sessions_give_own_begin()
-    ensures { λ _. ⌜ OwnBegin ⌝ }
-{}
+// Where a begin finds a place, the next end of its line gives the call from that begin to that end, whatever other
+// lines did between. Until the line begins again no end of it gives anything, nor does one of a line that never began.
+pub fn sessions_give_each_call_once()
+    ensures own { λ _. ⌜ OwnBegin ⌝ }
+    ensures once { λ _. ⌜ Once ⌝ }
+    ensures begun { λ _. ⌜ Begun ⌝ }
+{
+}
 
-// What Totals gives on a call is the number and the sum of its line's calls so far.
+// A call whose line finds a place is charged, and each charge is the number and the sum of its line's calls so far.
 pub fn totals_give_number_and_sum()
-    ensures { λ _. ⌜ SoFar ⌝ }
-{}
+    ensures sums { λ _. ⌜ SoFar ⌝ }
+    ensures given { λ _. ⌜ Given ⌝ }
+{
+}

@@ -2,7 +2,7 @@ ghost use mathlib.Core.Path.{_≡_};
 ghost use mathlib.Core.List.{List};
 ghost use Prim.Native.Nat.{ℕ, _+_, _<_};
 ghost use Rattle.operators.specs.Operators.{listed};
-ghost use Rattle.operators.specs.Pipes.{after-all, given-all, pipe-written, pipe-longest};
+ghost use Rattle.operators.specs.Pipes.{after-all, given-all, pipe-next, pipe-gives, pipe-written, pipe-longest, InTurn};
 ghost use Rattle.operators.specs.PipeLaws.{pipe-laws};
 use super::operator::Operator;
 use bodies::numbers::put32;
@@ -41,9 +41,9 @@ pub impl<F: Operator, S: Operator<In = F::Out>> Operator for Pipe<F, S> as PipeO
 
     ghost first = { (F·Operator .first, S·Operator .first) };
 
-    ghost next = { λ s v. (F·Operator .next (s .0) v, after-all (S·Operator .next) (s .1) (F·Operator .gives (s .0) v)) };
+    ghost next = { pipe-next (F·Operator .next) (F·Operator .gives) (S·Operator .next) };
 
-    ghost gives = { λ s v. given-all (S·Operator .next) (S·Operator .gives) (s .1) (F·Operator .gives (s .0) v) };
+    ghost gives = { pipe-gives (F·Operator .next) (F·Operator .gives) (S·Operator .next) (S·Operator .gives) };
 
     ghost written = { λ s. pipe-written (F·Operator .written (s .0)) (S·Operator .written (s .1)) };
 
@@ -104,4 +104,10 @@ pub impl<F: Operator, S: Operator<In = F::Out>> Operator for Pipe<F, S> as PipeO
         };
         Some(Pipe { front, back })
     }
+}
+
+// Over any values, a pipe gives what its second operator gives over all that its first gives.
+pub fn pipes_give_in_turn<F: Operator, S: Operator<In = F::Out>>()
+    ensures { λ _. ⌜ InTurn (F·Operator .next) (F·Operator .gives) (S·Operator .next) (S·Operator .gives) ⌝ }
+{
 }

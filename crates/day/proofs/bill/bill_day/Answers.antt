@@ -3,7 +3,8 @@ use native.Mathlib.Omega.{arith}
 use Rattle.line_operators.specs.Sessions.{none-open, sessions-next, sessions-gives, sessions-laws}
 use Rattle.script.specs.Lines.{lines}
 use Rattle.day.specs.Events.{events}
-use Rattle.day.specs.Sums.{AddsUp, adds-up}
+use Rattle.day.specs.Sums.{AddsUp}
+use Rattle.day.proofs.Adding.{adds-up}
 use Rattle.day.proofs.bill.bill_day.Needs as need
 
 pub returns : need.returns

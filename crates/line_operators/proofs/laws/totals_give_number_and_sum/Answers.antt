@@ -1,5 +1,5 @@
-use Rattle.line_operators.specs.TotalsLaw.{so-far}
+use Rattle.line_operators.proofs.TotalsRuns.{so-far, always-given}
 use Rattle.line_operators.proofs.laws.totals_give_number_and_sum.Needs as need
 
 pub returns : need.returns
-returns c = so-far
+returns c = record { sums = so-far; given = always-given }

@@ -10,7 +10,7 @@ use Rattle.std.proofs.shelf.Edits.{length-inserted}
 use Rattle.std.proofs.shelf.Tests.{le-leb, lt-leb}
 use Rattle.std.specs.shelf.Lists.{inserted}
 use Rattle.line_operators.specs.Rows.{with-row, put-in}
-use Rattle.line_operators.specs.Finds.{put-fits, put-full}
+use Rattle.line_operators.proofs.Finds.{put-fits, put-full}
 use Rattle.line_operators.specs.Places.{Place}
 use Rattle.line_operators.proofs.Spots.{with-here, with-new, moved}
 use Rattle.line_operators.proofs.Shifts.{take-set}

@@ -2,7 +2,7 @@
 use Prim.Native.Nat.{ℕ, suc, _+_, _<_, _≤_}
 use mathlib.Core.Path.{_≡_, refl, sym, ap, _∙_}
 use mathlib.Core.Bool.{Bool, true, false, cond}
-use mathlib.Core.Logic.{inl, inr}
+use mathlib.Core.Logic.{_⊎_, inl, inr}
 use mathlib.Core.List.{List, [], _∷_}
 use native.Mathlib.Omega.{arith}
 use lib.Dec.{leb, ltb, eqb}
@@ -137,11 +137,33 @@ module _ {E : Type 0} (rank : E → ℕ) where
       go true = longer (found rank (rank e) xs) refl
       go false = omega arith
 
+  -- a row finds a place where one is free or its rank has a row
+  pub room : (most : ℕ) (e : E) (xs : List E) → length xs ≤ most → (length xs < most) ⊎ ((o : E) × (found rank (rank e) xs ≡ Some o)) → length (with-row rank e xs) ≤ most
+  room most e xs few (inr known) = let l = length-known e (known .0) xs (known .1) in omega arith
+  room most e xs few (inl less) = go (found rank (rank e) xs) refl
+    where
+      go : (o : Option E) → found rank (rank e) xs ≡ o → length (with-row rank e xs) ≤ most
+      go None h = let l = length-new e xs h in omega arith
+      go (Some o) h = let l = length-known e o xs h in omega arith
+
   module _ (sound : E → Bool) where
     -- no row of a rank below all is found
     found-none : (n k : ℕ) (xs : List E) → orderly rank sound n xs ≡ true → k < n → found rank k xs ≡ None
     found-none n k [] h l = refl
     found-none n k (x ∷ xs) h l = let least = parts rank sound n x xs h .least in found-before k x xs (omega arith)
+
+    -- a row taken out is found no more
+    pub found-gone : (n k : ℕ) (xs : List E) → orderly rank sound n xs ≡ true → found rank k (without rank k xs) ≡ None
+    found-gone n k [] h = refl
+    found-gone n k (x ∷ xs) h =
+        let o = parts rank sound n x xs h in
+        elim (cases-order (rank x) k) [
+          | inl same ↦ ap (found rank k) (without-first k x xs same) ∙ found-none (suc (rank x)) k xs (o .others) (omega arith)
+          | inr other ↦ elim other [
+            | inl below ↦ ap (found rank k) (without-past k x xs below) ∙ found-past k x (without rank k xs) below ∙ found-gone (suc (rank x)) k xs (o .others)
+            | inr above ↦ ap (found rank k) (without-before k x xs above) ∙ found-before k x xs above
+          ]
+        ]
 
     -- a row taken out leaves the others to be found as before
     pub found-without : (n j k : ℕ) (xs : List E) → orderly rank sound n xs ≡ true → (j ≡ k → ⊥) → found rank k (without rank j xs) ≡ found rank k xs
