@@ -5,81 +5,54 @@ use mathlib.Core.Bool.{Bool, true, false, cond}
 use mathlib.Core.Logic.{_⊎_, inl, inr}
 use mathlib.Core.List.{List, [], _∷_}
 use native.Mathlib.Omega.{arith}
-use lib.Dec.{leb, ltb, eqb}
+use lib.Dec.{leb}
 use lib.ListN.{length}
-use Rattle.std.proofs.shelf.Tests.{lt-ltb, le-ltb, eq-eqb, ne-eqb, le-leb, lt-leb, cond-true, cond-false, cases-lt, cases-order}
+use Rattle.std.proofs.shelf.Tests.{le-leb, lt-leb, cond-true, cond-false, cases-lt, cases-order}
 use Rattle.std.specs.declared.option.Option.{Option}
 use Rattle.std.specs.declared.option.Option.the-variants.{Some, None}
 use Rattle.line_operators.specs.Rows.{orderly, found, with-row, put-in, without}
+use Rattle.line_operators.specs.RowSteps.{found-past, found-first, found-before, with-past, with-first, with-before, without-past, without-first, without-before}
 use Rattle.line_operators.specs.RowLaws.{parts}
 
 module _ {E : Type 0} (rank : E → ℕ) where
-  -- how the first row stands to a rank
-  pub found-past : (k : ℕ) (x : E) (xs : List E) → rank x < k → found rank k (x ∷ xs) ≡ found rank k xs
-  found-past k x xs h = rw (lt-ltb (rank x) k h)
-
-  pub found-first : (k : ℕ) (x : E) (xs : List E) → rank x ≡ k → found rank k (x ∷ xs) ≡ Some x
-  found-first k x xs h = rw (le-ltb (rank x) k (omega arith), eq-eqb (rank x) k h)
-
-  pub found-before : (k : ℕ) (x : E) (xs : List E) → k < rank x → found rank k (x ∷ xs) ≡ None
-  found-before k x xs h = rw (le-ltb (rank x) k (omega arith), ne-eqb (rank x) k (λ q. omega arith))
-
-  pub with-past : (e x : E) (xs : List E) → rank x < rank e → with-row rank e (x ∷ xs) ≡ x ∷ with-row rank e xs
-  with-past e x xs h = rw (lt-ltb (rank x) (rank e) h)
-
-  pub with-first : (e x : E) (xs : List E) → rank x ≡ rank e → with-row rank e (x ∷ xs) ≡ e ∷ xs
-  with-first e x xs h = rw (le-ltb (rank x) (rank e) (omega arith), eq-eqb (rank x) (rank e) h)
-
-  pub with-before : (e x : E) (xs : List E) → rank e < rank x → with-row rank e (x ∷ xs) ≡ e ∷ x ∷ xs
-  with-before e x xs h = rw (le-ltb (rank x) (rank e) (omega arith), ne-eqb (rank x) (rank e) (λ q. omega arith))
-
-  pub without-past : (k : ℕ) (x : E) (xs : List E) → rank x < k → without rank k (x ∷ xs) ≡ x ∷ without rank k xs
-  without-past k x xs h = rw (lt-ltb (rank x) k h)
-
-  pub without-first : (k : ℕ) (x : E) (xs : List E) → rank x ≡ k → without rank k (x ∷ xs) ≡ xs
-  without-first k x xs h = rw (le-ltb (rank x) k (omega arith), eq-eqb (rank x) k h)
-
-  pub without-before : (k : ℕ) (x : E) (xs : List E) → k < rank x → without rank k (x ∷ xs) ≡ x ∷ xs
-  without-before k x xs h = rw (le-ltb (rank x) k (omega arith), ne-eqb (rank x) k (λ q. omega arith))
-
   -- a row that was put in is found
   pub found-own : (e : E) (xs : List E) → found rank (rank e) (with-row rank e xs) ≡ Some e
-  found-own e [] = found-first (rank e) e [] refl
+  found-own e [] = found-first rank (rank e) e [] refl
   found-own e (x ∷ xs) =
       elim (cases-order (rank x) (rank e)) [
-        | inl same ↦ ap (found rank (rank e)) (with-first e x xs same) ∙ found-first (rank e) e xs refl
+        | inl same ↦ ap (found rank (rank e)) (with-first rank e x xs same) ∙ found-first rank (rank e) e xs refl
         | inr other ↦ elim other [
-          | inl below ↦ ap (found rank (rank e)) (with-past e x xs below) ∙ found-past (rank e) x (with-row rank e xs) below ∙ found-own e xs
-          | inr above ↦ ap (found rank (rank e)) (with-before e x xs above) ∙ found-first (rank e) e (x ∷ xs) refl
+          | inl below ↦ ap (found rank (rank e)) (with-past rank e x xs below) ∙ found-past rank (rank e) x (with-row rank e xs) below ∙ found-own e xs
+          | inr above ↦ ap (found rank (rank e)) (with-before rank e x xs above) ∙ found-first rank (rank e) e (x ∷ xs) refl
         ]
       ]
 
   -- the others are found as before
   pub found-other : (k : ℕ) (e : E) (xs : List E) → (rank e ≡ k → ⊥) → found rank k (with-row rank e xs) ≡ found rank k xs
   found-other k e [] ne =
-      elim (cases-lt (rank e) k) [ inl below ↦ found-past k e [] below | inr above ↦ found-before k e [] (elim (cases-order (rank e) k) [ inl same ↦ absurd (ne same) | inr o ↦ elim o [ inl l ↦ absurd (omega arith) | inr g ↦ g ] ]) ]
+      elim (cases-lt (rank e) k) [ inl below ↦ found-past rank k e [] below | inr above ↦ found-before rank k e [] (elim (cases-order (rank e) k) [ inl same ↦ absurd (ne same) | inr o ↦ elim o [ inl l ↦ absurd (omega arith) | inr g ↦ g ] ]) ]
   found-other k e (x ∷ xs) ne =
       elim (cases-order (rank x) (rank e)) [
-        | inl same ↦ ap (found rank k) (with-first e x xs same) ∙ elim (cases-order (rank e) k) [
+        | inl same ↦ ap (found rank k) (with-first rank e x xs same) ∙ elim (cases-order (rank e) k) [
           | inl is ↦ absurd (ne is)
           | inr o ↦ elim o [
-            | inl below ↦ found-past k e xs below ∙ sym (found-past k x xs (omega arith))
-            | inr above ↦ found-before k e xs above ∙ sym (found-before k x xs (omega arith))
+            | inl below ↦ found-past rank k e xs below ∙ sym (found-past rank k x xs (omega arith))
+            | inr above ↦ found-before rank k e xs above ∙ sym (found-before rank k x xs (omega arith))
           ]
         ]
         | inr other ↦ elim other [
-          | inl below ↦ ap (found rank k) (with-past e x xs below) ∙ elim (cases-order (rank x) k) [
-            | inl is ↦ found-first k x (with-row rank e xs) is ∙ sym (found-first k x xs is)
+          | inl below ↦ ap (found rank k) (with-past rank e x xs below) ∙ elim (cases-order (rank x) k) [
+            | inl is ↦ found-first rank k x (with-row rank e xs) is ∙ sym (found-first rank k x xs is)
             | inr o ↦ elim o [
-              | inl less ↦ found-past k x (with-row rank e xs) less ∙ found-other k e xs ne ∙ sym (found-past k x xs less)
-              | inr more ↦ found-before k x (with-row rank e xs) more ∙ sym (found-before k x xs more)
+              | inl less ↦ found-past rank k x (with-row rank e xs) less ∙ found-other k e xs ne ∙ sym (found-past rank k x xs less)
+              | inr more ↦ found-before rank k x (with-row rank e xs) more ∙ sym (found-before rank k x xs more)
             ]
           ]
-          | inr above ↦ ap (found rank k) (with-before e x xs above) ∙ elim (cases-order (rank e) k) [
+          | inr above ↦ ap (found rank k) (with-before rank e x xs above) ∙ elim (cases-order (rank e) k) [
             | inl is ↦ absurd (ne is)
             | inr o ↦ elim o [
-              | inl less ↦ found-past k e (x ∷ xs) less
-              | inr more ↦ found-before k e (x ∷ xs) more ∙ sym (found-before k x xs (omega arith))
+              | inl less ↦ found-past rank k e (x ∷ xs) less
+              | inr more ↦ found-before rank k e (x ∷ xs) more ∙ sym (found-before rank k x xs (omega arith))
             ]
           ]
         ]
@@ -90,10 +63,10 @@ module _ {E : Type 0} (rank : E → ℕ) where
   length-known e o [] h = absurd (let z : _≡_ {A = ℕ} 0 1 = cc in omega arith)
   length-known e o (x ∷ xs) h =
       elim (cases-order (rank x) (rank e)) [
-        | inl same ↦ ap length (with-first e x xs same)
+        | inl same ↦ ap length (with-first rank e x xs same)
         | inr other ↦ elim other [
-          | inl below ↦ ap length (with-past e x xs below) ∙ ap suc (length-known e o xs (sym (found-past (rank e) x xs below) ∙ h))
-          | inr above ↦ absurd (let f = found-before (rank e) x xs above in let z : _≡_ {A = ℕ} 0 1 = cc in omega arith)
+          | inl below ↦ ap length (with-past rank e x xs below) ∙ ap suc (length-known e o xs (sym (found-past rank (rank e) x xs below) ∙ h))
+          | inr above ↦ absurd (let f = found-before rank (rank e) x xs above in let z : _≡_ {A = ℕ} 0 1 = cc in omega arith)
         ]
       ]
 
@@ -101,10 +74,10 @@ module _ {E : Type 0} (rank : E → ℕ) where
   length-new e [] h = refl
   length-new e (x ∷ xs) h =
       elim (cases-order (rank x) (rank e)) [
-        | inl same ↦ absurd (let f = found-first (rank e) x xs same in let z : _≡_ {A = ℕ} 0 1 = cc in omega arith)
+        | inl same ↦ absurd (let f = found-first rank (rank e) x xs same in let z : _≡_ {A = ℕ} 0 1 = cc in omega arith)
         | inr other ↦ elim other [
-          | inl below ↦ ap length (with-past e x xs below) ∙ ap suc (length-new e xs (sym (found-past (rank e) x xs below) ∙ h))
-          | inr above ↦ ap length (with-before e x xs above)
+          | inl below ↦ ap length (with-past rank e x xs below) ∙ ap suc (length-new e xs (sym (found-past rank (rank e) x xs below) ∙ h))
+          | inr above ↦ ap length (with-before rank e x xs above)
         ]
       ]
 
@@ -150,7 +123,7 @@ module _ {E : Type 0} (rank : E → ℕ) where
     -- no row of a rank below all is found
     found-none : (n k : ℕ) (xs : List E) → orderly rank sound n xs ≡ true → k < n → found rank k xs ≡ None
     found-none n k [] h l = refl
-    found-none n k (x ∷ xs) h l = let least = parts rank sound n x xs h .least in found-before k x xs (omega arith)
+    found-none n k (x ∷ xs) h l = let least = parts rank sound n x xs h .least in found-before rank k x xs (omega arith)
 
     -- a row taken out is found no more
     pub found-gone : (n k : ℕ) (xs : List E) → orderly rank sound n xs ≡ true → found rank k (without rank k xs) ≡ None
@@ -158,10 +131,10 @@ module _ {E : Type 0} (rank : E → ℕ) where
     found-gone n k (x ∷ xs) h =
         let o = parts rank sound n x xs h in
         elim (cases-order (rank x) k) [
-          | inl same ↦ ap (found rank k) (without-first k x xs same) ∙ found-none (suc (rank x)) k xs (o .others) (omega arith)
+          | inl same ↦ ap (found rank k) (without-first rank k x xs same) ∙ found-none (suc (rank x)) k xs (o .others) (omega arith)
           | inr other ↦ elim other [
-            | inl below ↦ ap (found rank k) (without-past k x xs below) ∙ found-past k x (without rank k xs) below ∙ found-gone (suc (rank x)) k xs (o .others)
-            | inr above ↦ ap (found rank k) (without-before k x xs above) ∙ found-before k x xs above
+            | inl below ↦ ap (found rank k) (without-past rank k x xs below) ∙ found-past rank k x (without rank k xs) below ∙ found-gone (suc (rank x)) k xs (o .others)
+            | inr above ↦ ap (found rank k) (without-before rank k x xs above) ∙ found-before rank k x xs above
           ]
         ]
 
@@ -171,18 +144,18 @@ module _ {E : Type 0} (rank : E → ℕ) where
     found-without n j k (x ∷ xs) h ne =
         let o = parts rank sound n x xs h in
         elim (cases-order (rank x) j) [
-          | inl same ↦ ap (found rank k) (without-first j x xs same) ∙ elim (cases-lt (rank x) k) [
-            | inl below ↦ sym (found-past k x xs below)
-            | inr above ↦ let past : k < rank x = elim (cases-order (rank x) k) [ inl is ↦ absurd (ne (omega arith)) | inr r ↦ elim r [ inl l ↦ absurd (omega arith) | inr g ↦ g ] ] in found-none (suc (rank x)) k xs (o .others) (omega arith) ∙ sym (found-before k x xs past)
+          | inl same ↦ ap (found rank k) (without-first rank j x xs same) ∙ elim (cases-lt (rank x) k) [
+            | inl below ↦ sym (found-past rank k x xs below)
+            | inr above ↦ let past : k < rank x = elim (cases-order (rank x) k) [ inl is ↦ absurd (ne (omega arith)) | inr r ↦ elim r [ inl l ↦ absurd (omega arith) | inr g ↦ g ] ] in found-none (suc (rank x)) k xs (o .others) (omega arith) ∙ sym (found-before rank k x xs past)
           ]
           | inr other ↦ elim other [
-            | inl below ↦ ap (found rank k) (without-past j x xs below) ∙ elim (cases-order (rank x) k) [
-              | inl is ↦ found-first k x (without rank j xs) is ∙ sym (found-first k x xs is)
+            | inl below ↦ ap (found rank k) (without-past rank j x xs below) ∙ elim (cases-order (rank x) k) [
+              | inl is ↦ found-first rank k x (without rank j xs) is ∙ sym (found-first rank k x xs is)
               | inr r ↦ elim r [
-                | inl less ↦ found-past k x (without rank j xs) less ∙ found-without (suc (rank x)) j k xs (o .others) ne ∙ sym (found-past k x xs less)
-                | inr more ↦ found-before k x (without rank j xs) more ∙ sym (found-before k x xs more)
+                | inl less ↦ found-past rank k x (without rank j xs) less ∙ found-without (suc (rank x)) j k xs (o .others) ne ∙ sym (found-past rank k x xs less)
+                | inr more ↦ found-before rank k x (without rank j xs) more ∙ sym (found-before rank k x xs more)
               ]
             ]
-            | inr above ↦ ap (found rank k) (without-before j x xs above)
+            | inr above ↦ ap (found rank k) (without-before rank j x xs above)
           ]
         ]

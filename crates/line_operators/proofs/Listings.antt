@@ -17,6 +17,7 @@ use Rattle.std.specs.declared.result.Result.{Result}
 use Rattle.std.specs.declared.result.Result.the-variants.{Ok, Err}
 use Rattle.bodies.specs.declared.body.WrongLength.{WrongLength}
 use Rattle.bodies.specs.Bodies.{Lawful, Wrote}
+use Rattle.operators.proofs.Laying.{laid-more}
 use Rattle.line_operators.specs.Rows.{orderly, listing}
 use Rattle.line_operators.specs.RowLaws.{joined-long, orderly-next, orderly-sound, orderly-from}
 
@@ -61,13 +62,11 @@ pub wrote-fits : (b o p : List ℕ) (r : Result (Unit {0}) WrongLength) → Wrot
 wrote-fits b o p (Ok _) w l = w .1
 wrote-fits b o p (Err _) w l = absurd (w .0 l)
 
--- a part written behind what was written before
-pub wrote-more : (O out w J b : List ℕ) (at size k : ℕ) → at ≡ 1 + length J → 1 ≤ length O → out ≡ (take 1 O ++ J) ++ drop at O → w ≡ b → k ≡ size → putMid at k out w ≡ (take 1 O ++ (J ++ b)) ++ drop (at + size) O
-wrote-more O out w J b at size k e one o same z =
+-- a row written behind the count and the rows before
+pub wrote-more : (O out w J b : List ℕ) (at size k : ℕ) → at ≡ 1 + length J → 1 ≤ length O → out ≡ (take 1 O ++ J) ++ drop at O → w ≡ b → k ≡ size → length b ≡ size → putMid at k out w ≡ (take 1 O ++ (J ++ b)) ++ drop (at + size) O
+wrote-more O out w J b at size k e one o same z lb =
     let long : length (take 1 O ++ J) ≡ at = length-append (take 1 O) J ∙ (let t = length-take-le 1 O one in omega arith) in
-    let front : take at out ≡ take 1 O ++ J = ap (take at) o ∙ take-at (take 1 O ++ J) (drop at O) at long in
-    let back : drop k (drop at out) ≡ drop (at + size) O = ap (λ l. drop k (drop at l)) o ∙ ap (drop k) (drop-at (take 1 O ++ J) (drop at O) at long) ∙ drop-drop k at O ∙ ap (λ m. drop (at + m) O) z in
-    (λ i. front i ++ (same i ++ back i)) ∙ append-assoc (take 1 O) J (b ++ drop (at + size) O) ∙ ap (λ l. take 1 O ++ l) (sym (append-assoc J b (drop (at + size) O))) ∙ sym (append-assoc (take 1 O) (J ++ b) (drop (at + size) O))
+    ap (putMid at k out) same ∙ laid-more O out (take 1 O ++ J) b at k long o (omega arith) ∙ (λ i. append-assoc (take 1 O) J b i ++ drop (at + lb i) O)
 
 module _ {E : Type 0} {size : ℕ} {bytes : E → List ℕ} {value : List ℕ → Option E} (laws : Lawful size bytes value) where
   pub joined-next : (rows : List E) (i : ℕ) (x : E) → i < length rows → x ≡ getD rows i x → joined bytes (take (i + 1) rows) ≡ joined bytes (take i rows) ++ bytes x
@@ -108,8 +107,14 @@ module _ {E : Type 0} {size : ℕ} {bytes : E → List ℕ} {value : List ℕ �
     enough = let a = ap length e ∙ length-append (bytes z) (joined bytes zs) in let b = laws .long z in omega arith;
   }
 
-  pub next-row : (ys xs : List E) (i : ℕ) (rest : List ℕ) → length ys ≡ i → i < length xs → joined bytes ys ++ rest ≡ joined bytes xs → Next rest
+  next-row : (ys xs : List E) (i : ℕ) (rest : List ℕ) → length ys ≡ i → i < length xs → joined bytes ys ++ rest ≡ joined bytes xs → Next rest
   next-row ys xs i rest l lt e = first-of (drop (length ys) xs) rest (let d = length-drop (length ys) xs in omega arith) (cut ys xs rest (omega arith) e)
+
+  -- while some rows' bytes are read, the next row stands in front
+  pub next-in : (rows xs : List E) (i : ℕ) (rest from : List ℕ) → i ≤ length rows → i < getD from 0 0 → listing bytes xs ≡ from → joined bytes (take i rows) ++ rest ≡ drop 1 from → Next rest
+  next-in rows xs i rest from fits lt w inv =
+      let count = ap (λ l. getD l 0 0) w in
+      next-row (take i rows) xs i rest (length-take-le i rows fits) (omega arith) (inv ∙ sym (ap (drop 1) w))
 
   pub no-more : (ys xs : List E) (rest : List ℕ) → length ys ≡ length xs → joined bytes ys ++ rest ≡ joined bytes xs → length rest ≡ 0
   no-more ys xs rest l e =

@@ -4,14 +4,13 @@ use mathlib.Core.Path.{_≡_, refl, sym, ap, subst, _∙_}
 use mathlib.Core.Bool.{Bool, true, false, cond}
 use mathlib.Core.List.{List, [], _∷_, _++_}
 use native.Mathlib.Omega.{arith}
-use lib.Dec.{ltb, eqb}
 use lib.ListN.{length, getD, take, drop, set}
 use lib.Seq.{length-take-le, getD-take}
-use Rattle.std.proofs.shelf.Tests.{lt-ltb, le-ltb, eq-eqb, ne-eqb}
 use Rattle.std.specs.shelf.Lists.{inserted, removed}
 use Rattle.std.specs.declared.option.Option.{Option}
 use Rattle.std.specs.declared.option.Option.the-variants.{Some, None}
 use Rattle.line_operators.specs.Rows.{found, with-row, without}
+use Rattle.line_operators.specs.RowSteps.{found-past, found-first, found-before, with-past, with-first, with-before, without-past, without-first, without-before}
 use Rattle.line_operators.specs.Places.{Here, Place}
 
 module _ {E : Type 0} (rank : E → ℕ) where
@@ -28,34 +27,34 @@ module _ {E : Type 0} (rank : E → ℕ) where
 
   pub found-here : (k i : ℕ) (xs : List E) (d : E) → Place rank k i true xs → found rank k xs ≡ Some (getD xs i d)
   found-here k i [] d p = absurd (let n = p .next d in omega arith)
-  found-here k zero (x ∷ xs) d p = let e = p .next d .1 in rw (le-ltb (rank x) k (omega arith), eq-eqb (rank x) k e)
-  found-here k (suc i) (x ∷ xs) d p = rw (lt-ltb (rank x) k (p .before 0 x (omega arith))) (found-here k i xs d (step k i true x xs p))
+  found-here k zero (x ∷ xs) d p = found-first rank k x xs (p .next d .1)
+  found-here k (suc i) (x ∷ xs) d p = found-past rank k x xs (p .before 0 x (omega arith)) ∙ found-here k i xs d (step k i true x xs p)
 
   pub found-not : (k i : ℕ) (xs : List E) → Place rank k i false xs → found rank k xs ≡ None
   found-not k i [] p = refl
-  found-not k zero (x ∷ xs) p = let n = p .next x (omega arith) in rw (le-ltb (rank x) k (omega arith), ne-eqb (rank x) k (λ q. omega arith))
-  found-not k (suc i) (x ∷ xs) p = rw (lt-ltb (rank x) k (p .before 0 x (omega arith))) (found-not k i xs (step k i false x xs p))
+  found-not k zero (x ∷ xs) p = found-before rank k x xs (p .next x (omega arith))
+  found-not k (suc i) (x ∷ xs) p = found-past rank k x xs (p .before 0 x (omega arith)) ∙ found-not k i xs (step k i false x xs p)
 
   pub with-here : (e : E) (i : ℕ) (xs : List E) → Place rank (rank e) i true xs → with-row rank e xs ≡ set xs i e
   with-here e i [] p = absurd (let n = p .next e in omega arith)
-  with-here e zero (x ∷ xs) p = let q = p .next e .1 in rw (le-ltb (rank x) (rank e) (omega arith), eq-eqb (rank x) (rank e) q)
-  with-here e (suc i) (x ∷ xs) p = rw (lt-ltb (rank x) (rank e) (p .before 0 x (omega arith))) (ap (λ l. x ∷ l) (with-here e i xs (step (rank e) i true x xs p)))
+  with-here e zero (x ∷ xs) p = with-first rank e x xs (p .next e .1)
+  with-here e (suc i) (x ∷ xs) p = with-past rank e x xs (p .before 0 x (omega arith)) ∙ ap (λ l. x ∷ l) (with-here e i xs (step (rank e) i true x xs p))
 
   pub with-new : (e : E) (i : ℕ) (xs : List E) → Place rank (rank e) i false xs → with-row rank e xs ≡ inserted xs i e
   with-new e zero [] p = refl
   with-new e (suc i) [] p = absurd (let w = p .within in omega arith)
-  with-new e zero (x ∷ xs) p = let n = p .next x (omega arith) in rw (le-ltb (rank x) (rank e) (omega arith), ne-eqb (rank x) (rank e) (λ z. omega arith))
-  with-new e (suc i) (x ∷ xs) p = rw (lt-ltb (rank x) (rank e) (p .before 0 x (omega arith))) (ap (λ l. x ∷ l) (with-new e i xs (step (rank e) i false x xs p)))
+  with-new e zero (x ∷ xs) p = with-before rank e x xs (p .next x (omega arith))
+  with-new e (suc i) (x ∷ xs) p = with-past rank e x xs (p .before 0 x (omega arith)) ∙ ap (λ l. x ∷ l) (with-new e i xs (step (rank e) i false x xs p))
 
   pub without-here : (k i : ℕ) (xs : List E) (d : E) → Place rank k i true xs → without rank k xs ≡ removed xs i
   without-here k i [] d p = absurd (let n = p .next d in omega arith)
-  without-here k zero (x ∷ xs) d p = let e = p .next d .1 in rw (le-ltb (rank x) k (omega arith), eq-eqb (rank x) k e)
-  without-here k (suc i) (x ∷ xs) d p = rw (lt-ltb (rank x) k (p .before 0 x (omega arith))) (ap (λ l. x ∷ l) (without-here k i xs d (step k i true x xs p)))
+  without-here k zero (x ∷ xs) d p = without-first rank k x xs (p .next d .1)
+  without-here k (suc i) (x ∷ xs) d p = without-past rank k x xs (p .before 0 x (omega arith)) ∙ ap (λ l. x ∷ l) (without-here k i xs d (step k i true x xs p))
 
   pub without-not : (k i : ℕ) (xs : List E) → Place rank k i false xs → without rank k xs ≡ xs
   without-not k i [] p = refl
-  without-not k zero (x ∷ xs) p = let n = p .next x (omega arith) in rw (le-ltb (rank x) k (omega arith), ne-eqb (rank x) k (λ q. omega arith))
-  without-not k (suc i) (x ∷ xs) p = rw (lt-ltb (rank x) k (p .before 0 x (omega arith))) (ap (λ l. x ∷ l) (without-not k i xs (step k i false x xs p)))
+  without-not k zero (x ∷ xs) p = without-before rank k x xs (p .next x (omega arith))
+  without-not k (suc i) (x ∷ xs) p = without-past rank k x xs (p .before 0 x (omega arith)) ∙ ap (λ l. x ∷ l) (without-not k i xs (step k i false x xs p))
 
   -- a place among the first n of some rows
   pub placed : (k i n : ℕ) (here : Bool) (rows : List E) → n ≤ length rows → i ≤ n → ((j : ℕ) (d : E) → j < i → rank (getD rows j d) < k) → Here rank k i here (take n rows) → Place rank k i here (take n rows)

@@ -1,4 +1,5 @@
 pub mod Rows
+pub mod RowSteps
 pub mod RowLaws
 pub mod Tables
 pub mod Places

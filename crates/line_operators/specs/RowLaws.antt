@@ -6,14 +6,15 @@ use mathlib.Core.Logic.{inl, inr, _⊎_}
 use mathlib.Core.List.{List, [], _∷_, _++_}
 use native.Mathlib.Omega.{arith}
 use native.Mathlib.Nat.{suc-mul}
-use lib.Dec.{leb, ltb, eqb}
+use lib.Dec.{leb}
 use lib.ListN.{length, getD, take, drop, length-append}
-use Rattle.std.proofs.shelf.Tests.{lt-ltb, le-ltb, eq-eqb, ne-eqb, le-leb, leb-true, and-parts, and-from, cases-order}
+use Rattle.std.proofs.shelf.Tests.{le-leb, leb-true, and-parts, and-from, cases-order}
 use Rattle.std.proofs.shelf.Lists.{take-at, drop-at}
 use Rattle.std.specs.Joined.{joined}
 use Rattle.std.specs.declared.option.Option.{Option}
 use Rattle.bodies.specs.Bodies.{Lawful}
 use Rattle.line_operators.specs.Rows.{orderly, with-row, put-in, without, listing}
+use Rattle.line_operators.specs.RowSteps.{with-past, with-first, with-before, without-past, without-first, without-before}
 
 module _ {E : Type 0} (rank : E → ℕ) (sound : E → Bool) where
   pub record Orderly (n : ℕ) (x : E) (xs : List E) : Type 0 where
@@ -46,15 +47,15 @@ module _ {E : Type 0} (rank : E → ℕ) (sound : E → Bool) where
       let l = o .least in
       elim (cases-order (rank x) (rank e)) [
         | inl same ↦
-            rw (le-ltb (rank x) (rank e) (omega arith), eq-eqb (rank x) (rank e) same)
-            (from-parts n e xs (record { fit = fit; least = le; others = ap (λ r. orderly rank sound (suc r) xs) (sym same) ∙ o .others }))
+            ap (orderly rank sound n) (with-first rank e x xs same)
+            ∙ (from-parts n e xs (record { fit = fit; least = le; others = ap (λ r. orderly rank sound (suc r) xs) (sym same) ∙ o .others }))
         | inr other ↦ elim other [
           | inl below ↦
-              rw (lt-ltb (rank x) (rank e) below)
-              (from-parts n x (with-row rank e xs) (record { fit = o .fit; least = l; others = with-orderly (suc (rank x)) e xs fit (omega arith) (o .others) }))
+              ap (orderly rank sound n) (with-past rank e x xs below)
+              ∙ (from-parts n x (with-row rank e xs) (record { fit = o .fit; least = l; others = with-orderly (suc (rank x)) e xs fit (omega arith) (o .others) }))
           | inr above ↦
-              rw (le-ltb (rank x) (rank e) (omega arith), ne-eqb (rank x) (rank e) (λ q. omega arith))
-              (from-parts n e (x ∷ xs) (record { fit = fit; least = le; others = from-parts (suc (rank e)) x xs (record { fit = o .fit; least = omega arith; others = o .others }) }))
+              ap (orderly rank sound n) (with-before rank e x xs above)
+              ∙ (from-parts n e (x ∷ xs) (record { fit = fit; least = le; others = from-parts (suc (rank e)) x xs (record { fit = o .fit; least = omega arith; others = o .others }) }))
         ]
       ]
 
@@ -71,10 +72,10 @@ module _ {E : Type 0} (rank : E → ℕ) (sound : E → Bool) where
       let o = parts n x xs h in
       let l = o .least in
       elim (cases-order (rank x) k) [
-        | inl same ↦ rw (le-ltb (rank x) k (omega arith), eq-eqb (rank x) k same) (orderly-lower n (suc (rank x)) xs (omega arith) (o .others))
+        | inl same ↦ ap (orderly rank sound n) (without-first rank k x xs same) ∙ orderly-lower n (suc (rank x)) xs (omega arith) (o .others)
         | inr other ↦ elim other [
-          | inl below ↦ rw (lt-ltb (rank x) k below) (from-parts n x (without rank k xs) (record { fit = o .fit; least = l; others = without-orderly (suc (rank x)) k xs (o .others) }))
-          | inr above ↦ rw (le-ltb (rank x) k (omega arith), ne-eqb (rank x) k (λ q. omega arith)) h
+          | inl below ↦ ap (orderly rank sound n) (without-past rank k x xs below) ∙ (from-parts n x (without rank k xs) (record { fit = o .fit; least = l; others = without-orderly (suc (rank x)) k xs (o .others) }))
+          | inr above ↦ ap (orderly rank sound n) (without-before rank k x xs above) ∙ h
         ]
       ]
 
@@ -104,10 +105,10 @@ module _ {E : Type 0} (rank : E → ℕ) where
   without-short k [] = omega arith
   without-short k (x ∷ xs) =
       elim (cases-order (rank x) k) [
-        | inl same ↦ rw (le-ltb (rank x) k (omega arith), eq-eqb (rank x) k same) (omega arith)
+        | inl same ↦ let w = ap length (without-first rank k x xs same) in omega arith
         | inr o ↦ elim o [
-          | inl below ↦ rw (lt-ltb (rank x) k below) (let i = without-short k xs in omega arith)
-          | inr above ↦ rw (le-ltb (rank x) k (omega arith), ne-eqb (rank x) k (λ q. omega arith)) (omega arith)
+          | inl below ↦ let w = ap length (without-past rank k x xs below) in let i = without-short k xs in omega arith
+          | inr above ↦ let w = ap length (without-before rank k x xs above) in omega arith
         ]
       ]
 

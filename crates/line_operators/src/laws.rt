@@ -7,12 +7,10 @@ pub fn sessions_give_each_call_once()
     ensures own { λ _. ⌜ OwnBegin ⌝ }
     ensures once { λ _. ⌜ Once ⌝ }
     ensures begun { λ _. ⌜ Begun ⌝ }
-{
-}
+{}
 
 // A call whose line finds a place is charged, and each charge is the number and the sum of its line's calls so far.
 pub fn totals_give_number_and_sum()
     ensures sums { λ _. ⌜ SoFar ⌝ }
     ensures given { λ _. ⌜ Given ⌝ }
-{
-}
+{}

@@ -83,10 +83,7 @@ pub impl Operator for Totals as TotalsOperator {
 
     fn take(&mut self, value: Call) -> Option<Charge> {
         let charge = raise(find(&self.rows, self.count, value.line), value);
-        if !put(&mut self.rows, &mut self.count, charge) {
-            return None;
-        }
-        Some(charge)
+        put(&mut self.rows, &mut self.count, charge).then_some(charge)
     }
 
     fn state_length(&self) -> usize {

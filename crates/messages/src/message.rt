@@ -3,7 +3,7 @@ ghost use mathlib.Core.List.{List, _++_};
 ghost use Prim.Native.Nat.{ℕ, _<_};
 ghost use lib.ListN.{length};
 ghost use Rattle.std.specs.Options.{Cases};
-ghost use Rattle.messages.specs.Messages.{Msg, says, body-of, kind-of, version-of, number-of, weight-of, message-bytes, Short, Fields, MessageWrote, OneMessage};
+ghost use Rattle.messages.specs.Messages.{Content, content-of, body-of, kind-of, version-of, number-of, weight-of, message-bytes, Short, Fields, MessageWrote, OneMessage, AsLong};
 use bodies::numbers::get16;
 use bodies::numbers::get32;
 use bodies::numbers::put16;
@@ -33,7 +33,7 @@ pub enum Message<'a> {
 
 impl<'a> Message<'a> {
     fn kind(&self) -> u8
-        ensures { λ r. ⌜ r ≡ kind-of (says (now (self .entry))) ⌝ }
+        ensures { λ r. ⌜ r ≡ kind-of (content-of (now (self .entry))) ⌝ }
     {
         match self {
             Message::Record { .. } => 1,
@@ -46,7 +46,7 @@ impl<'a> Message<'a> {
     }
 
     fn version(&self) -> u16
-        ensures { λ r. ⌜ r ≡ version-of (says (now (self .entry))) ⌝ }
+        ensures { λ r. ⌜ r ≡ version-of (content-of (now (self .entry))) ⌝ }
     {
         match self {
             Message::Csync { version } | Message::Psync { version } => *version,
@@ -55,7 +55,7 @@ impl<'a> Message<'a> {
     }
 
     fn number(&self) -> u32
-        ensures { λ r. ⌜ r ≡ number-of (says (now (self .entry))) ⌝ }
+        ensures { λ r. ⌜ r ≡ number-of (content-of (now (self .entry))) ⌝ }
     {
         match self {
             Message::Record { number, .. }
@@ -67,7 +67,7 @@ impl<'a> Message<'a> {
 
     // The body, of no bytes where there is none.
     pub fn body(&self) -> &'a [u8]
-        ensures { λ r. ⌜ now r ≡ body-of (says (now (self .entry))) ⌝ }
+        ensures { λ r. ⌜ now r ≡ body-of (content-of (now (self .entry))) ⌝ }
     {
         match self {
             Message::Record { body, .. } | Message::Result { body, .. } => body,
@@ -75,15 +75,17 @@ impl<'a> Message<'a> {
         }
     }
 
+    // The header and the body, in bytes.
     pub fn weight(&self) -> usize
-        ensures { λ r. ⌜ r ≡ weight-of (says (now (self .entry))) ⌝ }
+        ensures is { λ r. ⌜ r ≡ weight-of (content-of (now (self .entry))) ⌝ }
+        ensures long { λ _. ⌜ AsLong ⌝ }
     {
         HEADER_LENGTH + self.body().len()
     }
 
     // Writes over lent bytes of just that number; else they stay.
     pub fn write(&self, out: &mut [u8]) -> Result<(), Unwritten>
-        ensures { λ r. ⌜ MessageWrote (says (now (self .entry))) (now (out .entry)) (now (out .exit)) r ⌝ }
+        ensures { λ r. ⌜ MessageWrote (content-of (now (self .entry))) (now (out .entry)) (now (out .exit)) r ⌝ }
     {
         let body = self.body();
         if body.len() > LONGEST_BODY {
@@ -103,7 +105,7 @@ impl<'a> Message<'a> {
 
     // The message of a header's fields and a body, which must fit together.
     fn fit(kind: u8, version: u16, number: u32, body: &'a [u8]) -> Option<Message<'a>>
-        ensures { λ r. ⌜ Cases r ((m : Msg) → Fields m kind version number (now (body .entry)) → ⊥) (λ m. Fields (says m) kind version number (now (body .entry))) ⌝ }
+        ensures { λ r. ⌜ Cases r ((m : Content) → Fields m kind version number (now (body .entry)) → ⊥) (λ m. Fields (content-of m) kind version number (now (body .entry))) ⌝ }
     {
         match (kind, version, number, body) {
             (1, 0, _, _) => Some(Message::Record { number, body }),
@@ -119,7 +121,7 @@ impl<'a> Message<'a> {
     // The message that the bytes begin with, and the bytes behind it.
     pub fn split_first(bytes: &'a [u8]) -> Option<(Message<'a>, &'a [u8])>
         ensures one { λ _. ⌜ OneMessage ⌝ }
-        ensures exact { λ r. ⌜ Cases r ((m : Msg) (more : List ℕ) → Short m → message-bytes m ++ more ≡ now (bytes .entry) → ⊥) (λ p. Short (says (p .0)) × (message-bytes (says (p .0)) ++ now (p .1) ≡ now (bytes .entry))) ⌝ }
+        ensures exact { λ r. ⌜ Cases r ((m : Content) (more : List ℕ) → Short m → message-bytes m ++ more ≡ now (bytes .entry) → ⊥) (λ p. Short (content-of (p .0)) × (message-bytes (content-of (p .0)) ++ now (p .1) ≡ now (bytes .entry))) ⌝ }
     {
         let [kind, length, v0, v1, n0, n1, n2, n3, rest @ ..] = bytes else {
             return None;
@@ -139,7 +141,7 @@ impl<'a> Message<'a> {
     // The message that the bytes are.
     pub fn read(bytes: &'a [u8]) -> Option<Message<'a>>
         ensures one { λ _. ⌜ OneMessage ⌝ }
-        ensures exact { λ r. ⌜ Cases r ((m : Msg) → Short m → message-bytes m ≡ now (bytes .entry) → ⊥) (λ m. Short (says m) × (message-bytes (says m) ≡ now (bytes .entry))) ⌝ }
+        ensures exact { λ r. ⌜ Cases r ((m : Content) → Short m → message-bytes m ≡ now (bytes .entry) → ⊥) (λ m. Short (content-of m) × (message-bytes (content-of m) ≡ now (bytes .entry))) ⌝ }
     {
         let Some((message, more)) = Message::split_first(bytes) else {
             return None;

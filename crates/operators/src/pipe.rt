@@ -8,7 +8,7 @@ use super::operator::Operator;
 use bodies::numbers::put32;
 use bodies::numbers::take32;
 
-// One operator's results fed into another.
+// Two operators: what the first, in front, gives goes into the second, at the back.
 #[derive(Drop)]
 pub struct Pipe<F: Operator, S: Operator<In = F::Out>> {
     pub front: F,
@@ -74,6 +74,7 @@ pub impl<F: Operator, S: Operator<In = F::Out>> Operator for Pipe<F, S> as PipeO
     }
 
     fn write_state(&self, out: &mut [u8]) -> Option<usize> {
+        // Nothing is promised of the lengths of such states, so none of them is begun.
         if Self::longest() == u32::MAX {
             return None;
         }
@@ -84,6 +85,7 @@ pub impl<F: Operator, S: Operator<In = F::Out>> Operator for Pipe<F, S> as PipeO
             return None;
         }
         out[0..4].copy_from_slice(&put32(front as u32));
+        // Parts of just the states' lengths refuse neither state.
         let _ = self.front.write_state(&mut out[4..4 + front]);
         let _ = self.back.write_state(&mut out[4 + front..whole]);
         Some(whole)
@@ -109,5 +111,4 @@ pub impl<F: Operator, S: Operator<In = F::Out>> Operator for Pipe<F, S> as PipeO
 // Over any values, a pipe gives what its second operator gives over all that its first gives.
 pub fn pipes_give_in_turn<F: Operator, S: Operator<In = F::Out>>()
     ensures { λ _. ⌜ InTurn (F·Operator .next) (F·Operator .gives) (S·Operator .next) (S·Operator .gives) ⌝ }
-{
-}
+{}

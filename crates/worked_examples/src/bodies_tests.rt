@@ -32,6 +32,7 @@ fn an_event_is_nine_bytes_and_its_kind_is_1_or_2() -> Result<(), Fail> {
         let read = Event::read(&[0, 0, 0, 7, 0, 0, 1, 0, kind]);
         check_eq(read.is_some(), kind == 1 || kind == 2)?;
     }
+    check_eq(begin.write(&mut [0; 8]), Err(WrongLength))?;
     check_eq(Event::read(&[0; 8]), None)?;
     check_eq(Event::read(&[0; 10]), None)
 }
@@ -63,5 +64,6 @@ fn a_charge_reads_back_as_itself() -> Result<(), Fail> {
     charge.write(&mut bytes)?;
     check_eq(bytes, [0, 0, 0, 7, 0, 0, 0, 2, 1, 2, 3, 4, 5, 6, 7, 8])?;
     check_eq(Charge::read(&bytes), Some(charge))?;
+    check_eq(charge.write(&mut [0; 17]), Err(WrongLength))?;
     check_eq(Charge::read(&bytes[0..15]), None)
 }

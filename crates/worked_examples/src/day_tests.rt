@@ -1,4 +1,5 @@
 use day::bill::bill_day;
+use day::ending::EndingDisplay;
 use day::unbilled::Unbilled;
 use day::unbilled::UnbilledDebug;
 use day::unbilled::UnbilledPartialEq;
@@ -22,6 +23,19 @@ fn a_day_ends_at_the_first_bad_line(rt: LibcRuntime) -> Result<(), Fail> {
         bad_line(heap, b"b 7 4294967295\nb 7 4294967296\n")?,
         Some(2),
     )
+}
+
+#[test]
+fn a_bill_ends_with_its_total_or_its_bad_line(rt: LibcRuntime) -> Result<(), Fail> {
+    let heap = rt.alloc();
+    let whole = bill_day(heap, b"b 7 100\ne 7 160\nb 8 1\n")?;
+    let last = whole.ending();
+    let text = format!(heap, "{last}")?;
+    check_eq(text.as_str(), "total 1 60")?;
+    let broken = bill_day(heap, b"b 7 100\nt\n")?;
+    let last = broken.ending();
+    let text = format!(heap, "{last}")?;
+    check_eq(text.as_str(), "bad 2")
 }
 
 #[test]

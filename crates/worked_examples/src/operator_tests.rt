@@ -203,5 +203,7 @@ fn a_pipe_writes_both_states() -> Result<(), Fail> {
     check(restore(&mut pipe, &out))?;
     out[3] = 2;
     check(!restore(&mut pipe, &out))?;
+    out[3] = 200;
+    check(!restore(&mut pipe, &out))?;
     check_eq(Pipe::<Sessions, Totals>::longest(), 1286)
 }

@@ -47,13 +47,15 @@ pub fn write_rows<E: Row>(rows: &[E], count: usize, out: &mut [u8]) -> Option<us
     out[0] = count as u8;
     let mut at = 1;
     for i in 0..count {
+        // A part of just a row's size refuses no row.
         let _ = rows[i].write(&mut out[at..at + size]);
         at += size;
     }
     Some(length)
 }
 
-// Reads a count byte and as many rows over the first of some, whatever their order; refused are bytes that no such rows write.
+// Reads a count byte and as many rows over the first of some, whatever their order; refused are bytes that no such rows
+// write. What a refusal leaves in the rows has no meaning: the caller has made them for this call.
 fn read_unordered<E: Row>(from: &[u8], rows: &mut [E]) -> Option<usize>
     ensures { λ r. ⌜ Cases r ((xs : List E) → length xs ≤ length (now (rows .entry)) → listed (E·Body .bytes) xs ≡ now (from .entry) → ⊥) (λ n. (n ≤ length (now (rows .entry))) × (listed (E·Body .bytes) (take n (now (rows .exit))) ≡ now (from .entry))) ⌝ }
 {
@@ -83,7 +85,7 @@ fn read_unordered<E: Row>(from: &[u8], rows: &mut [E]) -> Option<usize>
     Some(count)
 }
 
-// Reads a count byte and as many rows over the first of some; refused are bytes that no rows in order write.
+// The same for rows in order: refused are bytes that no such rows write.
 pub fn read_rows<E: Row>(from: &[u8], rows: &mut [E]) -> Option<usize>
     ensures { λ r. ⌜ Cases r ((xs : List E) → length xs ≤ length (now (rows .entry)) → orderly (λ e. E·Row .rank (E·Row .key e)) (E·Row .sound) 0 xs ≡ true → listed (E·Body .bytes) xs ≡ now (from .entry) → ⊥) (λ n. (n ≤ length (now (rows .entry))) × (orderly (λ e. E·Row .rank (E·Row .key e)) (E·Row .sound) 0 (take n (now (rows .exit))) ≡ true) × (listed (E·Body .bytes) (take n (now (rows .exit))) ≡ now (from .entry))) ⌝ }
 {

@@ -9,7 +9,7 @@ use Rattle.std.proofs.shelf.Lists.{take-all, nil-from-length, append-nil}
 use Rattle.std.proofs.shelf.Tests.{eqb-true, eqb-false}
 use Rattle.std.specs.Joined.{joined}
 use Rattle.line_operators.specs.Rows.{listing}
-use Rattle.line_operators.proofs.Listings.{next-row, no-more, joined-set}
+use Rattle.line_operators.proofs.Listings.{next-in, no-more, joined-set}
 use Rattle.line_operators.proofs.table.listing.read_unordered.Needs as need
 
 -- bytes are the first and the others
@@ -22,21 +22,13 @@ loop-i-holds g c = take-all _ _ (simp length-drop (omega arith))
 
 pub returns-then-rest-size : need.returns-then-rest-size
 returns-then-rest-size g c xs few w =
-    let i = c .loop-i .i in
-    let ys = take i (c .loop-i .rows) in
-    let count : length xs ≡ getD (c .args .from .now) 0 0 = ap (λ l. getD l 0 0) w in
-    let l = length-take-le i (c .loop-i .rows) (omega arith) in
-    let next = next-row (g .E·Body .laws) ys xs i (c .loop-i .rest .now) l (omega arith) (c .loop-i .inv ∙ sym (ap (drop 1) w)) in
+    let next = next-in (g .E·Body .laws) (c .loop-i .rows) xs (c .loop-i .i) (c .loop-i .rest .now) (c .args .from .now) (omega arith) (omega (arith, c .from-count .ensures)) w (c .loop-i .inv) in
     let e = next .enough in
     omega (arith, c .if-rest-size .taken, c .size-size .ensures .is)
 
 pub returns-in-rest-read : need.returns-in-rest-read
 returns-in-rest-read g c xs few w =
-    let i = c .loop-i .i in
-    let ys = take i (c .loop-i .rows) in
-    let count : length xs ≡ getD (c .args .from .now) 0 0 = ap (λ l. getD l 0 0) w in
-    let l = length-take-le i (c .loop-i .rows) (omega arith) in
-    let next = next-row (g .E·Body .laws) ys xs i (c .loop-i .rest .now) l (omega arith) (c .loop-i .inv ∙ sym (ap (drop 1) w)) in
+    let next = next-in (g .E·Body .laws) (c .loop-i .rows) xs (c .loop-i .i) (c .loop-i .rest .now) (c .args .from .now) (omega arith) (omega (arith, c .from-count .ensures)) w (c .loop-i .inv) in
     let front : g .E·Body .bytes (next .row) ≡ c .split-at .result .0 .now = next .spelled ∙ ap (λ k. take k (c .loop-i .rest .now)) (sym (c .size-size .ensures .is)) ∙ sym (c .split-at .ensures .front) in
     let some = g .E·Body .laws .back (next .row) in
     let none = c .in-rest-read .ensures tt in

@@ -68,7 +68,7 @@ loop-i-again g c =
     let w : c .write .last .out ≡ bytes x = wrote-fits (bytes x) (take (at + size - at) (drop at (c .loop-i .out))) _ _ (c .write .ensures) (part-long (c .loop-i .out) at size (omega arith) ∙ c .size-size .ensures .is ∙ sym long) in
     let more : joined bytes (take (i + 1) rows) ≡ J ++ bytes x = joined-next laws rows i x (omega arith) (c .index-rows-i .is) in
     let ml = ap length more ∙ length-append J (bytes x) in
-    (omega arith, wrote-more O (c .loop-i .out) (c .write .last .out) J (bytes x) at size (at + size - at) (c .loop-i .inv .0) (omega arith) (c .loop-i .inv .1) w (omega arith) ∙ ap (λ l. (take 1 O ++ l) ++ drop (at + size) O) (sym more))
+    (omega arith, wrote-more O (c .loop-i .out) (c .write .last .out) J (bytes x) at size (at + size - at) (c .loop-i .inv .0) (omega arith) (c .loop-i .inv .1) w (omega arith) (long ∙ sym (c .size-size .ensures .is)) ∙ ap (λ l. (take 1 O ++ l) ++ drop (at + size) O) (sym more))
 
 pub returns : need.returns
 returns g c =

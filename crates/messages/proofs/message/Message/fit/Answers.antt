@@ -4,11 +4,11 @@ use mathlib.Core.List.{List, []}
 use Prim.Native.Nat.{ℕ}
 use lib.ListN.{length}
 use Rattle.std.proofs.shelf.Lists.{nil-from-length}
-use Rattle.messages.specs.Messages.{Msg, Ack, Csync, Psync, Reverse, Fields, kind-of, version-of, number-of, body-of}
+use Rattle.messages.specs.Messages.{Content, Ack, Csync, Psync, Reverse, Fields, kind-of, version-of, number-of, body-of}
 use Rattle.messages.proofs.message.Message.fit.Needs as need
 
 -- the fields of a message that has no body
-bodiless : (m : Msg) (kind version number : ℕ) (body : List ℕ) → body-of m ≡ [] → kind ≡ kind-of m → version ≡ version-of m → number ≡ number-of m → length body ≡ 0 → Fields m kind version number body
+bodiless : (m : Content) (kind version number : ℕ) (body : List ℕ) → body-of m ≡ [] → kind ≡ kind-of m → version ≡ version-of m → number ≡ number-of m → length body ≡ 0 → Fields m kind version number body
 bodiless m kind version number body none k v n e = record { kind-is = sym k; version-is = sym v; number-is = sym n; body-is = none ∙ sym (nil-from-length body e) }
 
 pub returns-in-3-eq0-rest-empty : need.returns-in-3-eq0-rest-empty

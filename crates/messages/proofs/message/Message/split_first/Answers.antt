@@ -7,12 +7,12 @@ use native.Mathlib.Omega.{arith}
 use lib.ListN.{length, getD, take, drop, take-append-drop}
 use Rattle.std.proofs.shelf.Lists.{take-rest}
 use Rattle.bodies.specs.Numbers.{be16, be32, worth, worth16, worth32}
-use Rattle.messages.specs.Messages.{Msg, Fields, message-bytes, body-of, begins, one-message}
+use Rattle.messages.specs.Messages.{Content, Fields, message-bytes, body-of, begins, one-message}
 use Rattle.bodies.proofs.Heads.{front, cut}
 use Rattle.messages.proofs.message.Message.split_first.Needs as need
 
 -- eight bytes and those behind are the fields that were read from them
-spelt : (m : Msg) (xs body more : List ℕ) (v n : ℕ) → 8 ≤ length xs → Fields m (getD xs 0 0) v n body → be16 v ≡ getD xs 2 0 ∷ getD xs 3 0 ∷ [] → be32 n ≡ getD xs 4 0 ∷ getD xs 5 0 ∷ getD xs 6 0 ∷ getD xs 7 0 ∷ [] → length body ≡ getD xs 1 0 → body ++ more ≡ take (length xs - 8) (drop 8 xs) → message-bytes m ++ more ≡ xs
+spelt : (m : Content) (xs body more : List ℕ) (v n : ℕ) → 8 ≤ length xs → Fields m (getD xs 0 0) v n body → be16 v ≡ getD xs 2 0 ∷ getD xs 3 0 ∷ [] → be32 n ≡ getD xs 4 0 ∷ getD xs 5 0 ∷ getD xs 6 0 ∷ getD xs 7 0 ∷ [] → length body ≡ getD xs 1 0 → body ++ more ≡ take (length xs - 8) (drop 8 xs) → message-bytes m ++ more ≡ xs
 spelt m xs body more v n long f ev en len tail =
     (λ i. f .kind-is i ∷ (ap length (f .body-is) ∙ len) i ∷ (ap be16 (f .version-is) ∙ ev) i ++ (ap be32 (f .number-is) ∙ en) i ++ (ap (λ b. b ++ more) (f .body-is) ∙ tail) i)
     ∙ ap (λ l. l ++ take (length xs - 8) (drop 8 xs)) (sym (front 8 xs long))

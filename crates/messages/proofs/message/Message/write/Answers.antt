@@ -6,7 +6,7 @@ use native.Mathlib.Omega.{arith}
 use borrow.Rule.Slice.PartMut.{putMid, postOf}
 use lib.ListN.{length, getD, take, drop, length-append, length-drop}
 use Rattle.std.proofs.shelf.Lists.{take-at, drop-at, drop-all, append-nil}
-use Rattle.messages.specs.Messages.{says, body-of, kind-of, version-of, number-of}
+use Rattle.messages.specs.Messages.{content-of, body-of, kind-of, version-of, number-of}
 use Rattle.bodies.specs.Numbers.{be16, be32}
 use Rattle.messages.proofs.message.Message.write.Needs as need
 
@@ -20,7 +20,7 @@ laid out x y h b k ex ey eight ek =
 
 pub returns : need.returns
 returns c =
-    let m = says (c .args .self .now) in
+    let m = content-of (c .args .self .now) in
     let b = c .body-body .ensures in
     let lb = ap length b in
     let p = c .put16 .ensures ∙ ap be16 (c .version .ensures) in
