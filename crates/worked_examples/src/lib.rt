@@ -1,4 +1,4 @@
-// Worked examples of the crates below: a value of each kind, and the edge of each refusal.
+// Worked examples of the crates below: values of each kind, and edges of the refusals.
 #[cfg(test)]
 mod bodies_tests;
 #[cfg(test)]
@@ -7,3 +7,5 @@ mod day_tests;
 mod message_tests;
 #[cfg(test)]
 mod operator_tests;
+#[cfg(test)]
+mod script_tests;
