@@ -13,7 +13,7 @@ use Rattle.std.specs.declared.option.Option.the-variants.{Some, None}
 use Rattle.std.specs.declared.result.Result.{Result}
 use Rattle.std.specs.declared.result.Result.the-variants.{Ok, Err}
 
-pub record Lawful {A : Type 0} (size : ℕ) (bytes : A → List ℕ) (value : List ℕ → Option A) : Type 0 where
+pub record BodyLaws {A : Type 0} (size : ℕ) (bytes : A → List ℕ) (value : List ℕ → Option A) : Type 0 where
   -- every value writes so many
   pub long : (x : A) → length (bytes x) ≡ size
   -- what a value writes reads back as that value
@@ -70,7 +70,7 @@ module _ {A : Type 0} (bytes : A → List ℕ) (guess : List ℕ → A) where
       go false h f = absurd (let z : _≡_ {A = ℕ} 0 1 = cc in omega arith)
 
   -- a guess that is right of every value's own bytes makes a body kind
-  pub lawful-by : (size : ℕ) → ((x : A) → length (bytes x) ≡ size) → ((x : A) → guess (bytes x) ≡ x) → Lawful size bytes value-by
+  pub lawful-by : (size : ℕ) → ((x : A) → length (bytes x) ≡ size) → ((x : A) → guess (bytes x) ≡ x) → BodyLaws size bytes value-by
   lawful-by size long right = record {
     long = long;
     back = value-back right;
@@ -78,7 +78,7 @@ module _ {A : Type 0} (bytes : A → List ℕ) (guess : List ℕ → A) where
     apart = λ x y e. sym (right x) ∙ ap guess e ∙ right y;
   }
 
-module _ {A : Type 0} {size : ℕ} {bytes : A → List ℕ} {value : List ℕ → Option A} (laws : Lawful size bytes value) where
+module _ {A : Type 0} {size : ℕ} {bytes : A → List ℕ} {value : List ℕ → Option A} (laws : BodyLaws size bytes value) where
   -- a reading that gives the value that wrote, and refuses what no value writes, is the value
   pub value-is : (xs : List ℕ) (r : Option A) → Cases r ((x : A) → bytes x ≡ xs → ⊥) (λ x. bytes x ≡ xs) → r ≡ value xs
   value-is xs (Some x) e = sym (laws .back x) ∙ ap value e

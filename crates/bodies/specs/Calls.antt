@@ -7,7 +7,7 @@ use lib.ListN.{take, drop}
 use Rattle.std.specs.declared.option.Option.{Option}
 use Rattle.bodies.specs.declared.call.Call.{Call}
 use Rattle.bodies.specs.Numbers.{be32, worth, worth32}
-use Rattle.bodies.specs.Bodies.{Lawful, value-by, lawful-by}
+use Rattle.bodies.specs.Bodies.{BodyLaws, value-by, lawful-by}
 
 abbrev pub call-bytes : Call → List ℕ
 call-bytes c = be32 (c .line) ++ be32 (c .seconds)
@@ -19,7 +19,7 @@ call-guess xs = record { line = worth (take 4 xs); seconds = worth (take 4 (drop
 abbrev pub call-value : List ℕ → Option Call
 call-value = value-by call-bytes call-guess
 
-pub call-laws : Lawful 8 call-bytes call-value
+pub call-laws : BodyLaws 8 call-bytes call-value
 call-laws =
     lawful-by call-bytes call-guess 8 (λ x. refl)
     (λ x i. record { line = worth32 (x .line) i; seconds = worth32 (x .seconds) i })

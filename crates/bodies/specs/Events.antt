@@ -11,7 +11,7 @@ use Rattle.bodies.specs.declared.event.Event.{Event}
 use Rattle.bodies.specs.declared.event.EventKind.{EventKind}
 use Rattle.bodies.specs.declared.event.EventKind.the-variants.{Begin, End}
 use Rattle.bodies.specs.Numbers.{be32, worth, worth32}
-use Rattle.bodies.specs.Bodies.{Lawful, value-by, lawful-by}
+use Rattle.bodies.specs.Bodies.{BodyLaws, value-by, lawful-by}
 
 abbrev pub kind-byte : EventKind → ℕ
 kind-byte Begin = 1
@@ -31,7 +31,7 @@ kind-back : (k : EventKind) → cond (eqb (kind-byte k) 1) Begin End ≡ k
 kind-back Begin = refl
 kind-back End = refl
 
-pub event-laws : Lawful 9 event-bytes event-value
+pub event-laws : BodyLaws 9 event-bytes event-value
 event-laws =
     lawful-by event-bytes event-guess 9 (λ x. refl)
     (λ x i. record { line = worth32 (x .line) i; stamp = worth32 (x .stamp) i; kind = kind-back (x .kind) i })

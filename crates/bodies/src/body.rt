@@ -2,7 +2,7 @@ ghost use mathlib.Core.Path.{_≡_};
 ghost use mathlib.Core.List.{List};
 ghost use Prim.Native.Nat.{ℕ, _≤_};
 ghost use Rattle.std.specs.declared.option.Option.{Option};
-ghost use Rattle.bodies.specs.Bodies.{Lawful, Wrote};
+ghost use Rattle.bodies.specs.Bodies.{BodyLaws, Wrote};
 ghost use Rattle.bodies.specs.Weights.{longest-body};
 
 // Lent bytes of another number than those to be written.
@@ -20,7 +20,7 @@ pub trait Body: Copy {
     // the value that bytes write, if any does
     ghost value: { List ℕ → Option Self };
 
-    ghost laws: { Lawful size bytes value };
+    ghost laws: { BodyLaws size bytes value };
 
     // That length, of 1 to 40 bytes.
     fn size() -> usize

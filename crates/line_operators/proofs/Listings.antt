@@ -16,7 +16,7 @@ use Rattle.std.specs.declared.option.Option.{Option}
 use Rattle.std.specs.declared.result.Result.{Result}
 use Rattle.std.specs.declared.result.Result.the-variants.{Ok, Err}
 use Rattle.bodies.specs.declared.body.WrongLength.{WrongLength}
-use Rattle.bodies.specs.Bodies.{Lawful, Wrote}
+use Rattle.bodies.specs.Bodies.{BodyLaws, Wrote}
 use Rattle.operators.proofs.Laying.{laid-more}
 use Rattle.line_operators.specs.Rows.{orderly, listing}
 use Rattle.line_operators.specs.RowLaws.{joined-long, orderly-next, orderly-sound, orderly-from}
@@ -68,20 +68,20 @@ wrote-more O out w J b at size k e one o same z lb =
     let long : length (take 1 O ++ J) ≡ at = length-append (take 1 O) J ∙ (let t = length-take-le 1 O one in omega arith) in
     ap (putMid at k out) same ∙ laid-more O out (take 1 O ++ J) b at k long o (omega arith) ∙ (λ i. append-assoc (take 1 O) J b i ++ drop (at + lb i) O)
 
-module _ {E : Type 0} {size : ℕ} {bytes : E → List ℕ} {value : List ℕ → Option E} (laws : Lawful size bytes value) where
+module _ {E : Type 0} {size : ℕ} {bytes : E → List ℕ} {value : List ℕ → Option E} (laws : BodyLaws size bytes value) where
   pub joined-next : (rows : List E) (i : ℕ) (x : E) → i < length rows → x ≡ getD rows i x → joined bytes (take (i + 1) rows) ≡ joined bytes (take i rows) ++ bytes x
   joined-next rows i x lt e = ap (joined bytes) (take-more rows i x lt ∙ ap (λ y. take i rows ++ y ∷ []) (sym e)) ∙ sym (joined-more bytes [] (take i rows) x)
 
   pub joined-set : (rows : List E) (i : ℕ) (x : E) → i < length rows → joined bytes (take (i + 1) (set rows i x)) ≡ joined bytes (take i rows) ++ bytes x
   joined-set rows i x lt = ap (joined bytes) (take-more-set rows i x lt) ∙ sym (joined-more bytes [] (take i rows) x)
 
-  pub listed : (rows : List E) (n : ℕ) → n ≤ length rows → length (joined bytes (take n rows)) ≡ n * size
-  listed rows n fits = joined-long laws (take n rows) ∙ ap (λ m. m * size) (length-take-le n rows fits)
+  pub rows-long : (rows : List E) (n : ℕ) → n ≤ length rows → length (joined bytes (take n rows)) ≡ n * size
+  rows-long rows n fits = joined-long laws (take n rows) ∙ ap (λ m. m * size) (length-take-le n rows fits)
 
   -- the next row fits where all do
   pub room : (rows : List E) (i n : ℕ) → i < n → n ≤ length rows → length (joined bytes (take i rows)) + size ≤ n * size
   room rows i n lt fits =
-      let l = listed rows i (omega arith) in
+      let l = rows-long rows i (omega arith) in
       let s = suc-mul i size in
       let m = mul-le-mul-right {m = suc i} {n = n} size lt in
       omega arith

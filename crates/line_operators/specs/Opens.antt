@@ -6,7 +6,7 @@ use native.Mathlib.Omega.{arith}
 use lib.ListN.{take, drop}
 use Rattle.std.specs.declared.option.Option.{Option}
 use Rattle.bodies.specs.Numbers.{be32, worth, worth32}
-use Rattle.bodies.specs.Bodies.{Lawful, value-by, lawful-by}
+use Rattle.bodies.specs.Bodies.{BodyLaws, value-by, lawful-by}
 use Rattle.line_operators.specs.declared.open.Open.{Open}
 
 abbrev pub open-bytes : Open → List ℕ
@@ -19,7 +19,7 @@ open-guess xs = record { line = worth (take 4 xs); stamp = worth (take 4 (drop 4
 abbrev pub open-value : List ℕ → Option Open
 open-value = value-by open-bytes open-guess
 
-pub open-laws : Lawful 8 open-bytes open-value
+pub open-laws : BodyLaws 8 open-bytes open-value
 open-laws =
     lawful-by open-bytes open-guess 8 (λ x. refl)
     (λ x i. record { line = worth32 (x .line) i; stamp = worth32 (x .stamp) i })

@@ -12,7 +12,7 @@ use Rattle.std.proofs.shelf.Tests.{le-leb, leb-true, and-parts, and-from, cases
 use Rattle.std.proofs.shelf.Lists.{take-at, drop-at}
 use Rattle.std.specs.Joined.{joined}
 use Rattle.std.specs.declared.option.Option.{Option}
-use Rattle.bodies.specs.Bodies.{Lawful}
+use Rattle.bodies.specs.Bodies.{BodyLaws}
 use Rattle.line_operators.specs.Rows.{orderly, with-row, put-in, without, listing}
 use Rattle.line_operators.specs.RowSteps.{with-past, with-first, with-before, without-past, without-first, without-before}
 
@@ -112,7 +112,7 @@ module _ {E : Type 0} (rank : E → ℕ) where
         ]
       ]
 
-module _ {E : Type 0} {size : ℕ} {bytes : E → List ℕ} {value : List ℕ → Option E} (laws : Lawful size bytes value) where
+module _ {E : Type 0} {size : ℕ} {bytes : E → List ℕ} {value : List ℕ → Option E} (laws : BodyLaws size bytes value) where
   pub joined-long : (xs : List E) → length (joined bytes xs) ≡ length xs * size
   joined-long [] = omega arith
   joined-long (x ∷ xs) = length-append (bytes x) (joined bytes xs) ∙ (λ i. laws .long x i + joined-long xs i) ∙ (let e = suc-mul (length xs) size in omega arith)

@@ -11,7 +11,7 @@ use Rattle.bodies.specs.declared.event.Event.{Event}
 use Rattle.bodies.specs.declared.event.EventKind.{EventKind}
 use Rattle.bodies.specs.declared.event.EventKind.the-variants.{Begin, End}
 use Rattle.bodies.specs.declared.call.Call.{Call}
-use Rattle.operators.specs.Operators.{Lawful}
+use Rattle.operators.specs.Operators.{OperatorLaws}
 use Rattle.line_operators.specs.declared.open.Open.{Open}
 use Rattle.line_operators.specs.Rows.{found, put-in, without, listing}
 use Rattle.line_operators.specs.Tables.{Fair, Table, put-fair, without-fair, table-apart, table-long}
@@ -79,7 +79,7 @@ one-call End line stamp xs = at-most (found open-line line xs)
     at-most None = omega arith
     at-most (Some o) = omega arith
 
-pub sessions-laws : Lawful sessions-gives sessions-written 257
+pub sessions-laws : OperatorLaws sessions-gives sessions-written 257
 sessions-laws = record {
   few = λ s e. one-call (e .kind) (e .line) (e .stamp) (s .0);
   within = λ h s. table-long open-line any-open 32 open-laws s;

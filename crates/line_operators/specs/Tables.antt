@@ -11,7 +11,7 @@ use lib.ListN.{length, take}
 use lib.Seq.{length-take-le}
 use Rattle.std.proofs.shelf.Tests.{le-leb, leb-true, and-parts, and-from}
 use Rattle.std.specs.declared.option.Option.{Option}
-use Rattle.bodies.specs.Bodies.{Lawful}
+use Rattle.bodies.specs.Bodies.{BodyLaws}
 use Rattle.line_operators.specs.Rows.{orderly, with-row, without, put-in, listing}
 use Rattle.line_operators.specs.RowLaws.{put-orderly, without-orderly, without-short, joined-long, listing-apart}
 
@@ -20,9 +20,11 @@ passes true t = refl
 passes false t = elim t [ ]
 
 module _ {E : Type 0} (rank : E → ℕ) (sound : E → Bool) (most : ℕ) where
+  -- rows that a table may have
   abbrev pub Fair : List E → Type 0
   Fair xs = T (leb (length xs) most && orderly rank sound 0 xs)
 
+  -- a table: rows, with the fact that it may have them
   abbrev pub Table : Type 0
   Table = (xs : List E) × Fair xs
 
@@ -55,7 +57,7 @@ module _ {E : Type 0} (rank : E → ℕ) (sound : E → Bool) (most : ℕ) where
   table-of rows count long few up =
       (take count rows, fair-from (take count rows) (let l = length-take-le count rows (omega arith) in omega arith) up)
 
-  module _ {size : ℕ} {bytes : E → List ℕ} {value : List ℕ → Option E} (laws : Lawful size bytes value) where
+  module _ {size : ℕ} {bytes : E → List ℕ} {value : List ℕ → Option E} (laws : BodyLaws size bytes value) where
     pub table-apart : (s t : Table) → listing bytes (s .0) ≡ listing bytes (t .0) → s ≡ t
     table-apart s t e = same-table s t (listing-apart laws (s .0) (t .0) e)
 

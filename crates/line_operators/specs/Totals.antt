@@ -12,7 +12,7 @@ use Rattle.std.specs.declared.option.Option.the-variants.{Some, None}
 use Rattle.bodies.specs.declared.call.Call.{Call}
 use Rattle.bodies.specs.declared.charge.Charge.{Charge}
 use Rattle.bodies.specs.Charges.{charge-bytes, charge-laws}
-use Rattle.operators.specs.Operators.{Lawful}
+use Rattle.operators.specs.Operators.{OperatorLaws}
 use Rattle.line_operators.specs.Rows.{found, with-row, put-in, listing}
 use Rattle.line_operators.specs.Tables.{Table, put-fair, table-apart, table-long}
 
@@ -77,7 +77,7 @@ one-charge : (b : Bool) (c : Charge) → length (cond b (c ∷ []) []) ≤ 1
 one-charge true c = omega arith
 one-charge false c = omega arith
 
-pub totals-laws : Lawful totals-gives totals-written 1025
+pub totals-laws : OperatorLaws totals-gives totals-written 1025
 totals-laws = record {
   few = λ s v. one-charge (leb (length (with-row charge-line (charge-with v (s .0)) (s .0))) 64) (charge-with v (s .0));
   within = λ h s. table-long charge-line billed 64 charge-laws s;

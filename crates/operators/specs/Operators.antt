@@ -11,7 +11,7 @@ use Rattle.std.specs.declared.option.Option.the-variants.{Some, None}
 abbrev pub unbounded : ℕ
 unbounded = 4294967295
 
-pub record Lawful {State In Out : Type 0} (gives : State → In → List Out) (written : State → List ℕ) (longest : ℕ) : Type 0 where
+pub record OperatorLaws {State In Out : Type 0} (gives : State → In → List Out) (written : State → List ℕ) (longest : ℕ) : Type 0 where
   -- none or one
   pub few : (s : State) (v : In) → length (gives s v) ≤ 1
   -- no writing is longer

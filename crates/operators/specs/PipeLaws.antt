@@ -6,7 +6,7 @@ use native.Mathlib.Omega.{arith}
 use lib.ListN.{length, getD, take, drop, length-append}
 use Rattle.std.proofs.shelf.Lists.{take-at, drop-at, append-nil}
 use Rattle.bodies.specs.Numbers.{be32, be32-apart}
-use Rattle.operators.specs.Operators.{Lawful, unbounded}
+use Rattle.operators.specs.Operators.{OperatorLaws, unbounded}
 use Rattle.operators.specs.Pipes.{after-all, given-all, pipe-written, pipe-longest}
 
 -- what a pipe wrote is cut where it was joined
@@ -25,13 +25,13 @@ cut-of a b xs n e =
       back = sym (drop-at a b n long) ∙ ap (drop n) tail;
     }
 
-module _ {S T In Mid Out : Type 0} {first : S → In → List Mid} {second : T → Mid → List Out} {v : S → List ℕ} {w : T → List ℕ} {m n : ℕ} (next : T → Mid → T) (one : Lawful first v m) (two : Lawful second w n) where
+module _ {S T In Mid Out : Type 0} {first : S → In → List Mid} {second : T → Mid → List Out} {v : S → List ℕ} {w : T → List ℕ} {m n : ℕ} (next : T → Mid → T) (one : OperatorLaws first v m) (two : OperatorLaws second w n) where
   gives-few : (t : T) (xs : List Mid) → length xs ≤ 1 → length (given-all next second t xs) ≤ 1
   gives-few t [] h = omega arith
   gives-few t (x ∷ []) h = let e = ap length (append-nil (second t x)) in let f = two .few t x in omega arith
   gives-few t (x ∷ (y ∷ xs)) h = absurd (omega arith)
 
-  pub pipe-laws : Lawful {State = S × T} (λ s x. given-all next second (s .1) (first (s .0) x)) (λ s. pipe-written (v (s .0)) (w (s .1))) (pipe-longest m n)
+  pub pipe-laws : OperatorLaws {State = S × T} (λ s x. given-all next second (s .1) (first (s .0) x)) (λ s. pipe-written (v (s .0)) (w (s .1))) (pipe-longest m n)
   pipe-laws = record {
     few = λ s x. gives-few (s .1) (first (s .0) x) (one .few (s .0) x);
     within = λ small s.

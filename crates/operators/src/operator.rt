@@ -5,7 +5,7 @@ ghost use lib.ListN.{length};
 ghost use Rattle.std.specs.Options.{Cases};
 ghost use Rattle.std.specs.declared.option.Option.the-variants.{None};
 ghost use Rattle.bodies.specs.Bodies.{Laid};
-ghost use Rattle.operators.specs.Operators.{Lawful, Restored, listed, unbounded};
+ghost use Rattle.operators.specs.Operators.{OperatorLaws, Restored, listed, unbounded};
 use bodies::body::Body;
 
 // Takes values of one body kind and gives values of another, by its state and the value alone.
@@ -31,7 +31,7 @@ pub trait Operator: Drop {
     // no state writes more bytes, if this is below 4,294,967,295
     ghost longest: { ℕ };
 
-    ghost laws: { Lawful gives written longest };
+    ghost laws: { OperatorLaws gives written longest };
 
     fn longest() -> u32
         ensures { λ r. ⌜ r ≡ longest ⌝ };

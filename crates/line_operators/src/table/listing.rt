@@ -6,7 +6,7 @@ ghost use lib.ListN.{length, take};
 ghost use Rattle.std.specs.Options.{Cases};
 ghost use Rattle.std.specs.declared.option.Option.the-variants.{None};
 ghost use Rattle.bodies.specs.Bodies.{Laid};
-ghost use Rattle.line_operators.specs.Rows.{orderly, listing as listed};
+ghost use Rattle.line_operators.specs.Rows.{orderly, listing};
 use super::Row;
 
 // Whether the first rows are sound and rise by their keys.
@@ -28,7 +28,7 @@ fn in_order<E: Row>(rows: &[E], count: usize) -> bool
 // How many bytes a count byte and the first rows are.
 pub fn rows_length<E: Row>(rows: &[E], count: usize) -> usize
     requires { ⌜ (count ≤ length (now rows)) × (count ≤ 255) ⌝ }
-    ensures { λ r. ⌜ r ≡ length (listed (E·Body .bytes) (take count (now (rows .entry)))) ⌝ }
+    ensures { λ r. ⌜ r ≡ length (listing (E·Body .bytes) (take count (now (rows .entry)))) ⌝ }
 {
     1 + count * E::size()
 }
@@ -36,8 +36,8 @@ pub fn rows_length<E: Row>(rows: &[E], count: usize) -> usize
 // Writes a count byte and the first rows over the first of the lent bytes, and answers how many bytes.
 pub fn write_rows<E: Row>(rows: &[E], count: usize, out: &mut [u8]) -> Option<usize>
     requires { ⌜ (count ≤ length (now rows)) × (count ≤ 255) ⌝ }
-    ensures laid { λ r. ⌜ Laid (listed (E·Body .bytes) (take count (now (rows .entry)))) (now (out .entry)) (now (out .exit)) r ⌝ }
-    ensures refused { λ r. ⌜ (r ≡ None → length (now (out .entry)) < length (listed (E·Body .bytes) (take count (now (rows .entry))))) ⌝ }
+    ensures laid { λ r. ⌜ Laid (listing (E·Body .bytes) (take count (now (rows .entry)))) (now (out .entry)) (now (out .exit)) r ⌝ }
+    ensures refused { λ r. ⌜ (r ≡ None → length (now (out .entry)) < length (listing (E·Body .bytes) (take count (now (rows .entry))))) ⌝ }
 {
     let size = E::size();
     let length = 1 + count * size;
@@ -57,7 +57,7 @@ pub fn write_rows<E: Row>(rows: &[E], count: usize, out: &mut [u8]) -> Option<us
 // Reads a count byte and as many rows over the first of some, whatever their order; refused are bytes that no such rows
 // write. What a refusal leaves in the rows has no meaning: the caller has made them for this call.
 fn read_unordered<E: Row>(from: &[u8], rows: &mut [E]) -> Option<usize>
-    ensures { λ r. ⌜ Cases r ((xs : List E) → length xs ≤ length (now (rows .entry)) → listed (E·Body .bytes) xs ≡ now (from .entry) → ⊥) (λ n. (n ≤ length (now (rows .entry))) × (listed (E·Body .bytes) (take n (now (rows .exit))) ≡ now (from .entry))) ⌝ }
+    ensures { λ r. ⌜ Cases r ((xs : List E) → length xs ≤ length (now (rows .entry)) → listing (E·Body .bytes) xs ≡ now (from .entry) → ⊥) (λ n. (n ≤ length (now (rows .entry))) × (listing (E·Body .bytes) (take n (now (rows .exit))) ≡ now (from .entry))) ⌝ }
 {
     let [n, tail @ ..] = from else {
         return None;
@@ -87,7 +87,7 @@ fn read_unordered<E: Row>(from: &[u8], rows: &mut [E]) -> Option<usize>
 
 // The same for rows in order: refused are bytes that no such rows write.
 pub fn read_rows<E: Row>(from: &[u8], rows: &mut [E]) -> Option<usize>
-    ensures { λ r. ⌜ Cases r ((xs : List E) → length xs ≤ length (now (rows .entry)) → orderly (λ e. E·Row .rank (E·Row .key e)) (E·Row .sound) 0 xs ≡ true → listed (E·Body .bytes) xs ≡ now (from .entry) → ⊥) (λ n. (n ≤ length (now (rows .entry))) × (orderly (λ e. E·Row .rank (E·Row .key e)) (E·Row .sound) 0 (take n (now (rows .exit))) ≡ true) × (listed (E·Body .bytes) (take n (now (rows .exit))) ≡ now (from .entry))) ⌝ }
+    ensures { λ r. ⌜ Cases r ((xs : List E) → length xs ≤ length (now (rows .entry)) → orderly (λ e. E·Row .rank (E·Row .key e)) (E·Row .sound) 0 xs ≡ true → listing (E·Body .bytes) xs ≡ now (from .entry) → ⊥) (λ n. (n ≤ length (now (rows .entry))) × (orderly (λ e. E·Row .rank (E·Row .key e)) (E·Row .sound) 0 (take n (now (rows .exit))) ≡ true) × (listing (E·Body .bytes) (take n (now (rows .exit))) ≡ now (from .entry))) ⌝ }
 {
     let Some(count) = read_unordered(from, rows) else {
         return None;

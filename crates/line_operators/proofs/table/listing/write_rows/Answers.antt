@@ -8,7 +8,7 @@ use lib.ListN.{length, take, drop, set, length-set, length-append, length-drop}
 use lib.Seq.{length-take-le}
 use Rattle.std.proofs.shelf.Lists.{drop-set-lt}
 use Rattle.std.specs.Joined.{joined}
-use Rattle.line_operators.proofs.Listings.{wrote-fits, wrote-more, joined-next, listed, room}
+use Rattle.line_operators.proofs.Listings.{wrote-fits, wrote-more, joined-next, rows-long, room}
 use Rattle.line_operators.proofs.table.listing.write_rows.Needs as need
 
 -- the first byte is the count
@@ -26,7 +26,7 @@ part-long xs at size h = let d = length-drop at xs in length-take-le (at + size 
 
 pub returns-then-out-length : need.returns-then-out-length
 returns-then-out-length g c =
-    let l = listed (g .E·Body .laws) (c .args .rows .now) (c .args .count) (c .pre .0) in
+    let l = rows-long (g .E·Body .laws) (c .args .rows .now) (c .args .count) (c .pre .0) in
     let p = ap (λ m. c .args .count * m) (c .size-size .ensures .is) in
     record { laid = refl; refused = λ none. omega (arith, c .if-out-length .taken) }
 
@@ -77,7 +77,7 @@ returns g c =
     let n = c .args .count in
     let out = c .args .out .now in
     let i : c .loop-i .i ≡ n = omega arith in
-    let l = listed (g .E·Body .laws) rows n (c .pre .0) in
+    let l = rows-long (g .E·Body .laws) rows n (c .pre .0) in
     let p = ap (λ m. n * m) (c .size-size .ensures .is) in
     let j = ap (λ k. length (joined bytes (take k rows))) i in
     let at : c .loop-i .at ≡ 1 + n * c .size-size .result = omega arith in
