@@ -1,3 +1,5 @@
+#![tactic(auto)]
+
 use day::bill::{Bill, bill_day};
 use day::unbilled::LONGEST_SCRIPT;
 use std::io::Read;

@@ -1,4 +1,6 @@
 // The body kinds, numbers in bytes, and weights.
+#![tactic(auto)]
+
 pub mod body;
 pub mod call;
 pub mod charge;

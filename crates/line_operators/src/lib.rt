@@ -1,4 +1,6 @@
 // Operators that keep a row a line: Sessions and Totals, and their table.
+#![tactic(auto)]
+
 mod charge_row;
 pub mod laws;
 mod open;

@@ -1,4 +1,6 @@
 // Links: messages on their way from one unit to another, in order, up to a weight.
+#![tactic(auto)]
+
 pub mod link;
 pub mod packed_link;
 mod packing;

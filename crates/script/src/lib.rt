@@ -1,4 +1,5 @@
 // Scripts for the bench: a text is cut into lines, a line is read as a command with its words, and the words as numbers.
+#![tactic(auto)]
 
 mod bytes;
 pub mod commands;

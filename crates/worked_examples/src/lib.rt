@@ -1,4 +1,6 @@
 // Worked examples of the crates below: values of each kind, and edges of the refusals.
+#![tactic(auto)]
+
 #[cfg(test)]
 mod bodies_tests;
 #[cfg(test)]
