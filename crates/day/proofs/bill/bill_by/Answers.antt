@@ -31,11 +31,11 @@ loop-line-preserved g c =
     let rest = c.loop-line.rest.now in
     let line = c.in-Some.line.now in
     let more = c.in-Some.more.now in
-    let e = c.in-Some-read-event.event in
+    let e = c.in-Some-read_event.event in
     let cut = c.in-Some.ensures.cut in
-    let is : event_of line ≡ Some e = sym c.in-Some-read-event.ensures in
-    let t = c.take-through-call.ensures in (
-      more_billed _ _ _ _ _ _ _ _ e (events (lines more)) (events (lines rest)) _ _ _ _ _ t.front t.back t.between t.given c.in-ok-note.ensures (first_event rest line more e cut.goes_on is) c.loop-line.invariant.0,
+    let is : event_of line ≡ Some e = sym c.in-Some-read_event.ensures in
+    let t = c.take_through-call.ensures in (
+      more_billed _ _ _ _ _ _ _ _ e (events (lines more)) (events (lines rest)) _ _ _ _ _ t.front t.back t.between t.given c.in_ok-note.ensures (first_event rest line more e cut.goes_on is) c.loop-line.invariant.0,
       sym (first_number rest line more e (c.loop-line.number + 1) cut.goes_on is) ∙ c.loop-line.invariant.1,
       omega (arith, cut.shorter, c.loop-line.invariant.2),
     )

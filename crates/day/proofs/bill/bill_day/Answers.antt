@@ -8,9 +8,9 @@ use Rattle.day.proofs.bill.bill_day.Goals as goal
 
 pub returns : goal.returns
 returns c =
-    let billed = c.in-ok-bill-by.ensures in
+    let billed = c.in_ok-bill_by.ensures in
     record {
-      fits = c.if-text-gt-LONGEST-SCRIPT.false;
+      fits = c.if-text-gt-LONGEST_SCRIPT.false;
       billed = billed;
       adds_up = subst AddsUp (sym billed.entries_are) (adds_up sessions_next sessions_gives sessions_laws.few (events (lines c.args.text.now)) none_open);
     }

@@ -24,12 +24,12 @@ returns g c =
     let n = c.args.numbers.now in
     let t = c.args.table.now in
     let number = c.args.number in
-    let at = c.in-ok-at.at in
+    let at = c.in_ok-at.at in
     let wide : at + c.size.result - at ≡ size = omega arith in
-    let place = shows (has_places n.limit size (length t)) (Some (number % places n.limit size * size)) at c.in-ok-at.ensures.is in
+    let place = shows (has_places n.limit size (length t)) (Some (number % places n.limit size * size)) at c.in_ok-at.ensures.is in
     let some = place.1 in
     let there : at ≡ number % places n.limit size * size = cc in
     record {
       is = (λ i. Some (number, take (wide i) (drop (there i) t))) ∙ sym (holds_number size n t number (omega arith) (omega arith)) ∙ sym (cond-true (has_places n.limit size (length t)) _ _ place.0);
-      long = simp (length-take, length-drop) (omega (arith, c.in-ok-at.ensures.within));
+      long = simp (length-take, length-drop) (omega (arith, c.in_ok-at.ensures.within));
     }

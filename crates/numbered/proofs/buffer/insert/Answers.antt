@@ -5,42 +5,42 @@ use Rattle.numbered.specs.declared.buffer.Uninserted.TheVariants.{NoNumber, Full
 use Rattle.numbered.specs.Buffers.{holding, places, has_places, finds_place, largest_number}
 use Rattle.numbered.proofs.Holdings.{Taken, answers, answers_none, holds_values, hides, shows, taken_value, taken_bare, refused, after_insert}
 use Rattle.numbered.proofs.buffer.insert.Goals as goal
-use Rattle.numbered.proofs.buffer.insert.Goals.{then-not-next-is-bare+else-not-has-space+in-Some-place, else-not-next-is-bare}
+use Rattle.numbered.proofs.buffer.insert.Goals.{then-not-next_is_bare+else-not-has_space+in-Some-place, else-not-next_is_bare}
 
 -- the numbers with another last
 abbrev numbered_to : ℕ → Numbers → Numbers
 numbered_to m n = record { limit = n.limit; gone = n.gone; last = m }
 
-pub returns-in-default : goal.returns-in-default
-returns-in-default g c =
+pub returns-in_default : goal.returns-in_default
+returns-in_default g c =
     let size = g.B.Body.size in
     let n = c.args.numbers.now in
     let t = c.args.table.now in
-    let e = answers_none size n t (length t) (omega (arith, c.in-default.ensures)) in
+    let e = answers_none size n t (length t) (omega (arith, c.in_default.ensures)) in
     let no = refused size n t (g.B.Body.bytes c.args.value) NoNumber e in
     record { answer = no.answer; after = no.after; counted = refl; laid = refl }
 
-pub returns-then-not-has-space : goal.returns-then-not-has-space
-returns-then-not-has-space g c =
+pub returns-then-not-has_space : goal.returns-then-not-has_space
+returns-then-not-has_space g c =
     let size = g.B.Body.size in
     let n = c.args.numbers.now in
     let t = c.args.table.now in
     let h = holding size n t in
     let few : n.last < largest_number = omega (arith, c.in-Some.ensures) in
-    let e = answers size n t (length t) false (finds_place n.limit size (length t) h) few (sym (c.if-not-has-space.ensures t)) refl in
+    let e = answers size n t (length t) false (finds_place n.limit size (length t) h) few (sym (c.if-not-has_space.ensures t)) refl in
     let no = refused size n t (g.B.Body.bytes c.args.value) Full e in
     record { answer = no.answer; after = no.after; counted = refl; laid = refl }
 
-pub returns-in-default-place : goal.returns-in-default-place
-returns-in-default-place g c =
+pub returns-in_default-place : goal.returns-in_default-place
+returns-in_default-place g c =
     let size = g.B.Body.size in
     let n = c.args.numbers.now in
     let t = c.args.table.now in
     let h = holding size n t in
     let few : n.last < largest_number = omega (arith, c.in-Some.ensures) in
-    let none = hides (has_places n.limit size (length t)) (c.in-Some.number % places n.limit size * size) c.in-default-place.ensures.is in
-    let place = ap (finds_place n.limit size (length t)) (holds_values size n t (ltb-false n.last n.gone (sym c.if-not-next-is-bare.ensures))) ∙ none in
-    let e = answers size n t (length t) true false few (sym (c.if-not-has-space.ensures t)) place in
+    let none = hides (has_places n.limit size (length t)) (c.in-Some.number % places n.limit size * size) c.in_default-place.ensures.is in
+    let place = ap (finds_place n.limit size (length t)) (holds_values size n t (ltb-false n.last n.gone (sym c.if-not-next_is_bare.ensures))) ∙ none in
+    let e = answers size n t (length t) true false few (sym (c.if-not-has_space.ensures t)) place in
     let no = refused size n t (g.B.Body.bytes c.args.value) ShortTable e in
     record { answer = no.answer; after = no.after; counted = refl; laid = refl }
 
@@ -52,21 +52,21 @@ returns g c =
     let t = c.args.table.now in
     let body = b.bytes c.args.value in
     let number = c.in-Some.number in
-    let u = c.if-not-next-is-bare.table in
+    let u = c.if-not-next_is_bare.table in
     let next : number ≡ n.last + 1 = omega (arith, c.in-Some.ensures) in
     let few : n.last < largest_number = omega (arith, c.in-Some.ensures) in
     let P : List ℕ → Type 0 = λ v. Taken size n t body v in
     let taken : Taken size n t body u =
-    elim c.if-not-next-is-bare.branch [
-      | then-not-next-is-bare+else-not-has-space+in-Some-place w ↦
+    elim c.if-not-next_is_bare.branch [
+      | then-not-next_is_bare+else-not-has_space+in-Some-place w ↦
           let place = shows (has_places n.limit size (length t)) (Some (number % places n.limit size * size)) w.in-Some-place.at w.in-Some-place.ensures.is in
           let some = place.1 in
           let there : w.in-Some-place.at ≡ number % places n.limit size * size = cc in
           let at = there ∙ ap (λ m. m % places n.limit size * size) next in
-          let laid = w.write-at.ensures ∙ (λ i. take (at i) t ++ (body ++ drop (at i + size) t)) in
+          let laid = w.write_at.ensures ∙ (λ i. take (at i) t ++ (body ++ drop (at i + size) t)) in
           subst P (sym (w.table-is ∙ laid))
-          (taken_value size n t body (b.laws.long c.args.value) (ltb-false n.last n.gone (sym w.if-not-next-is-bare.ensures)) few (sym (w.if-not-has-space.ensures t)) place.0)
-      | else-not-next-is-bare w ↦ subst P (sym w.table-is) (taken_bare size n t body (ltb-true n.last n.gone (sym w.if-not-next-is-bare.ensures)) few)
+          (taken_value size n t body (b.laws.long c.args.value) (ltb-false n.last n.gone (sym w.if-not-next_is_bare.ensures)) few (sym (w.if-not-has_space.ensures t)) place.0)
+      | else-not-next_is_bare w ↦ subst P (sym w.table-is) (taken_bare size n t body (ltb-true n.last n.gone (sym w.if-not-next_is_bare.ensures)) few)
     ] in
     record {
       answer = ap Ok next ∙ sym taken.answer;

@@ -6,9 +6,9 @@ use Rattle.numbered.proofs.buffer.weight.Goals as goal
 
 pub returns : goal.returns
 returns g c =
-    let count = c.value-count.result in
-    let heavy = mul-le count c.entry-weight.result count (weigh longest_body) (omega arith) c.entry-weight.ensures.bounds.1 in
+    let count = c.value_count.result in
+    let heavy = mul-le count c.entry_weight.result count (weigh longest_body) (omega arith) c.entry_weight.ensures.bounds.1 in
     record {
-      is = λ table. (λ i. c.value-count.ensures i * c.entry-weight.ensures.is i + c.bare_count.ensures i * header_length) ∙ sym (weight_is g.B.Body.size c.args.numbers.now table);
+      is = λ table. (λ i. c.value_count.ensures i * c.entry_weight.ensures.is i + c.bare_count.ensures i * header_length) ∙ sym (weight_is g.B.Body.size c.args.numbers.now table);
       bounds = omega arith;
     }

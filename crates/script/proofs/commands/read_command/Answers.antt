@@ -6,4 +6,4 @@ use Rattle.script.proofs.commands.read_command.Goals as goal
 pub returns : goal.returns
 returns c =
     let some : 1 ≤ length c.args.line.now = search rules in
-    line_says _ _ _ c.command-of.result (first_and_others c.args.line.now some) c.command-of.ensures
+    line_says _ _ _ c.command_of.result (first_and_others c.args.line.now some) c.command_of.ensures

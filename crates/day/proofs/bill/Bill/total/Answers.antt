@@ -7,7 +7,7 @@ use Rattle.day.specs.declared.entry.Entry.{Entry}
 use Rattle.day.specs.declared.entry.Entry.TheVariants as entry
 use Rattle.day.specs.Sums.{calls_in, seconds_of, Totalled}
 use Rattle.day.proofs.bill.Bill.total.Goals as goal
-use Rattle.day.proofs.bill.Bill.total.Goals.{in-Call, in-default}
+use Rattle.day.proofs.bill.Bill.total.Goals.{in-Call, in_default}
 
 seconds_more : (cs : List Call) (c : Call) → seconds_of (cs ++ c ∷ []) ≡ seconds_of cs + c.seconds
 seconds_more [] c = omega arith
@@ -48,15 +48,15 @@ loop-entry-preserved c =
     elim c.match-entry.branch [
       | in-Call w ↦
           let call = w.in-Call.call in
-          let time : c.match-entry.seconds ≡ min (t + call.seconds) most_seconds = omega (arith, w.seconds-is, w.saturating-add-seconds.ensures, w.from.ensures) in (
+          let time : c.match-entry.seconds ≡ min (t + call.seconds) most_seconds = omega (arith, w.seconds-is, w.saturating_add-seconds.ensures, w.from.ensures) in (
             subst (λ l. Totalled l c.match-entry.calls c.match-entry.seconds) (sym (next xs i (entry.Call call) c.loop-entry-test.true w.in-Call.is))
                 (subst (λ m. Totalled (take i xs ++ entry.Call call ∷ []) m c.match-entry.seconds) (sym w.calls-is)
                 (subst (λ u. Totalled (take i xs ++ entry.Call call ∷ []) (n + 1) u) (sym time) (call_more (take i xs) call n t c.loop-entry.invariant.0))),
             omega (arith, w.calls-is, c.loop-entry.invariant.1),
           )
-      | in-default w ↦
-          let g = w.in-default.field-0 in (
-            subst (λ l. Totalled l c.match-entry.calls c.match-entry.seconds) (sym (next xs i (entry.Charge g) c.loop-entry-test.true w.in-default.is))
+      | in_default w ↦
+          let g = w.in_default.field-0 in (
+            subst (λ l. Totalled l c.match-entry.calls c.match-entry.seconds) (sym (next xs i (entry.Charge g) c.loop-entry-test.true w.in_default.is))
                 (subst (λ m. Totalled (take i xs ++ entry.Charge g ∷ []) m c.match-entry.seconds) (sym w.calls-is)
                 (subst (λ u. Totalled (take i xs ++ entry.Charge g ∷ []) n u) (sym w.seconds-is) (charge_more (take i xs) g n t c.loop-entry.invariant.0))),
             omega (arith, w.calls-is, c.loop-entry.invariant.1),

@@ -4,7 +4,7 @@ use Rattle.line_operators.specs.RowLaws.{without_orderly}
 use Rattle.line_operators.specs.Sessions.{open_line, any_open}
 use Rattle.line_operators.proofs.sessions.Sessions.end.Goals as goal
 
-pub invariant-of-self : goal.invariant-of-self
-invariant-of-self c =
+pub invariant_of-self : goal.invariant_of-self
+invariant_of-self c =
     let old = c.args.self.now in
-    (omega arith, (omega (arith, c.remove.ensures.within), (ap (orderly open_line any_open 0) c.remove.ensures.after ∙ without_orderly open_line any_open 0 c.args.line (take old.count old.rows) old.ordered, tt)))
+    record { long = omega arith; few = omega (arith, c.remove.ensures.within); ordered = ap (orderly open_line any_open 0) c.remove.ensures.after ∙ without_orderly open_line any_open 0 c.args.line (take old.count old.rows) old.ordered }

@@ -13,4 +13,4 @@ shifted xs i n k after lt le e a =
     (λ j. take (n - 1) (put_mid i (s j) xs after)) ∙ closed xs i (n - 1) m after (omega arith) (omega arith) (a ∙ (λ j. drop 1 (take (s j) (drop i xs)) ++ take 1 (take (s j) (drop i xs)))) ∙ (λ j. remove (take (one j) xs) i)
 
 pub returns : goal.returns
-returns g c = shifted c.args.rows.now c.args.i c.args.n (c.args.n - c.args.i) _ c.requires.0 c.requires.1 (omega arith) c.rotate-left.ensures.after
+returns g c = shifted c.args.rows.now c.args.i c.args.n (c.args.n - c.args.i) _ c.requires.0 c.requires.1 (omega arith) c.rotate_left.ensures.after

@@ -14,4 +14,4 @@ shifted xs i n k row after le lt e a =
     (λ j. take (one j) (set (put_mid i (e j) xs after) i row)) ∙ opened xs i n m row after lt (omega arith) a1
 
 pub returns : goal.returns
-returns g c = shifted c.args.rows.now c.args.i c.args.n (c.args.n + 1 - c.args.i) c.args.row _ c.requires.0 c.requires.1 (omega (arith, c.requires.0)) c.rotate-right.ensures.after
+returns g c = shifted c.args.rows.now c.args.i c.args.n (c.args.n + 1 - c.args.i) c.args.row _ c.requires.0 c.requires.1 (omega (arith, c.requires.0)) c.rotate_right.ensures.after

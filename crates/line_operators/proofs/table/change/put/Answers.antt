@@ -50,5 +50,5 @@ returns-then-n-rows g c =
 
 pub returns : goal.returns
 returns g c =
-    let put = new (λ e. g.E.Row.rank (g.E.Row.key e)) c.args.rows.now c.args.count.now c.place-i.result.0 c.args.row c.requires _ _ (ap g.E.Row.rank c.key.ensures) c.place-i.ensures.seat _ c.if-here.false c.if-n-rows.false c.open-at.ensures in
+    let put = new (λ e. g.E.Row.rank (g.E.Row.key e)) c.args.rows.now c.args.count.now c.place-i.result.0 c.args.row c.requires _ _ (ap g.E.Row.rank c.key.ensures) c.place-i.ensures.seat _ c.if-here.false c.if-n-rows.false c.open_at.ensures in
     record { after = put.0; within = omega (arith, c.if-n-rows.false); fits = put.1 }

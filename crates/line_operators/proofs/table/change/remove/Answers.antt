@@ -25,6 +25,6 @@ returns g c =
     let seat : Place rank k i true (take n rows) = moved rank k k i c.place-i.result.1 true (take n rows) refl c.if-not-here.false c.place-i.ensures.seat in
     record {
       given = ap Some (c.index-rows-i.is ∙ sym at) ∙ sym (found_here rank k i (take n rows) x seat);
-      after = c.close-at.ensures ∙ sym (without_here rank k i (take n rows) x seat);
+      after = c.close_at.ensures ∙ sym (without_here rank k i (take n rows) x seat);
       within = omega (arith, c.requires);
     }

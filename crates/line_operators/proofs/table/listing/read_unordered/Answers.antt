@@ -20,12 +20,12 @@ returns-then-rest-size g c xs few w =
     let e = next.enough in
     omega (arith, c.if-rest-size.true, c.size-size.ensures.is)
 
-pub returns-in-default-read : goal.returns-in-default-read
-returns-in-default-read g c xs few w =
+pub returns-in_default-read : goal.returns-in_default-read
+returns-in_default-read g c xs few w =
     let next = next_in g.E.Body.laws c.loop-i.rows xs c.loop-i.i c.loop-i.rest.now c.args.from.now (omega arith) (omega (arith, c.from-count.ensures)) w c.loop-i.invariant in
-    let front : g.E.Body.bytes next.row ≡ c.split-at.result.0.now = next.spelled ∙ ap (λ k. take k c.loop-i.rest.now) (sym c.size-size.ensures.is) ∙ sym c.split-at.ensures.front in
+    let front : g.E.Body.bytes next.row ≡ c.split_at.result.0.now = next.spelled ∙ ap (λ k. take k c.loop-i.rest.now) (sym c.size-size.ensures.is) ∙ sym c.split_at.ensures.front in
     let some = g.E.Body.laws.back next.row in
-    let none = c.in-default-read.ensures in
+    let none = c.in_default-read.ensures in
     let z : ◌≡◌ {A = ℕ} 0 1 = cc (ap g.E.Body.value front) in
     omega arith
 
@@ -37,17 +37,17 @@ loop-i-preserved g c =
     let size = c.size-size.result in
     let J = flat_map g.E.Body.bytes (take i rows) in
     let more = joined_set g.E.Body.laws rows i c.in-Some.row (omega arith) in
-    let x : g.E.Body.bytes c.in-Some.row ≡ take size rest = g.E.Body.laws.only _ c.in-Some.row (sym c.in-Some.ensures) ∙ c.split-at.ensures.front in
-    (λ k. more k ++ c.split-at.ensures.back k) ∙ (λ k. (J ++ x k) ++ drop size rest) ∙ append_assoc J (take size rest) (drop size rest) ∙ ap (λ l. J ++ l) (take-append-drop size rest) ∙ c.loop-i.invariant
+    let x : g.E.Body.bytes c.in-Some.row ≡ take size rest = g.E.Body.laws.only _ c.in-Some.row (sym c.in-Some.ensures) ∙ c.split_at.ensures.front in
+    (λ k. more k ++ c.split_at.ensures.back k) ∙ (λ k. (J ++ x k) ++ drop size rest) ∙ append_assoc J (take size rest) (drop size rest) ∙ ap (λ l. J ++ l) (take-append-drop size rest) ∙ c.loop-i.invariant
 
-pub returns-then-not-is-empty : goal.returns-then-not-is-empty
-returns-then-not-is-empty g c xs few w =
+pub returns-then-not-is_empty : goal.returns-then-not-is_empty
+returns-then-not-is_empty g c xs few w =
     let i = c.loop-i.i in
     let ys = take i c.loop-i.rows in
     let count : length xs ≡ get_or c.args.from.now 0 0 = ap (λ l. get_or l 0 0) w in
     let l = length-take-le i c.loop-i.rows (omega arith) in
     let z = no_more g.E.Body.laws ys xs c.loop-i.rest.now (omega arith) (c.loop-i.invariant ∙ sym (ap (drop 1) w)) in
-    eqb-false (length c.loop-i.rest.now) 0 (sym c.if-not-is-empty.ensures) z
+    eqb-false (length c.loop-i.rest.now) 0 (sym c.if-not-is_empty.ensures) z
 
 pub returns : goal.returns
 returns g c =
@@ -56,6 +56,6 @@ returns g c =
     let n = c.from-count.result in
     let i : c.loop-i.i ≡ n = omega arith in
     let some : 1 ≤ length from = search rules in
-    let z = nil_from_length c.loop-i.rest.now (eqb-true (length c.loop-i.rest.now) 0 (sym c.if-not-is-empty.ensures)) in
+    let z = nil_from_length c.loop-i.rest.now (eqb-true (length c.loop-i.rest.now) 0 (sym c.if-not-is_empty.ensures)) in
     let body : flat_map g.E.Body.bytes (take n rows) ≡ drop 1 from = sym (append-nil _) ∙ (λ k. flat_map g.E.Body.bytes (take (sym i k) rows) ++ sym z k) ∙ c.loop-i.invariant in
     (omega arith, (λ k. (length-take-le n rows (omega arith) ∙ c.from-count.ensures) k ∷ body k) ∙ whole from some)

@@ -23,21 +23,21 @@ returns-then-out-length g c =
     let p = ap (λ m. c.args.count * m) c.size-size.ensures.is in
     record { laid = refl; refused = λ none. omega (arith, c.if-out-length.true) }
 
-pub overflow-add-at : goal.overflow-add-at
-overflow-add-at g c =
+pub overflow_add-at : goal.overflow_add-at
+overflow_add-at g c =
     let r = room g.E.Body.laws c.args.rows.now c.loop-i.i c.args.count c.loop-i-test.true c.requires.0 in
     let h = ends c.loop-i.at _ c.size-size.result _ c.args.count (length c.args.out.now) c.loop-i.invariant.0 r c.size-size.ensures.is c.if-out-length.false in
     search rules
 
-pub slice-bounds-write-end : goal.slice-bounds-write-end
-slice-bounds-write-end g c =
+pub slice_bounds-write-end : goal.slice_bounds-write-end
+slice_bounds-write-end g c =
     let r = room g.E.Body.laws c.args.rows.now c.loop-i.i c.args.count c.loop-i-test.true c.requires.0 in
     let h = ends c.loop-i.at _ c.size-size.result _ c.args.count (length c.args.out.now) c.loop-i.invariant.0 r c.size-size.ensures.is c.if-out-length.false in
     let k : length c.loop-i.out ≡ length c.args.out.now = c.loop-i.auto.out ∙ length-set c.args.out.now 0 c.args.count in
     search rules
 
-pub overflow-add-at-in-loop-i : goal.overflow-add-at-in-loop-i
-overflow-add-at-in-loop-i g c =
+pub overflow_add-at-in-loop-i : goal.overflow_add-at-in-loop-i
+overflow_add-at-in-loop-i g c =
     let r = room g.E.Body.laws c.args.rows.now c.loop-i.i c.args.count c.loop-i-test.true c.requires.0 in
     let h = ends c.loop-i.at _ c.size-size.result _ c.args.count (length c.args.out.now) c.loop-i.invariant.0 r c.size-size.ensures.is c.if-out-length.false in
     search rules

@@ -19,11 +19,11 @@ given_as r o a b xs n w e m is = ap listed w ∙ either r ∙ (λ i. cond (e i) 
     either true = refl
     either false = refl
 
-pub invariant-of-self : goal.invariant-of-self
-invariant-of-self c =
+pub invariant_of-self : goal.invariant_of-self
+invariant_of-self c =
     let old = c.args.self.now in
     let sound : billed c.raise-charge.result ≡ true = ap billed c.raise-charge.ensures ∙ raised_billed c.find.result c.args.value.line c.args.value.seconds in
-    (omega arith, (omega (arith, c.put.ensures.within), (ap (orderly charge_line billed 0) c.put.ensures.after ∙ put_orderly charge_line billed 0 (length old.rows) c.raise-charge.result (take old.count old.rows) sound (omega arith) old.ordered, tt)))
+    record { long = omega arith; few = omega (arith, c.put.ensures.within); ordered = ap (orderly charge_line billed 0) c.put.ensures.after ∙ put_orderly charge_line billed 0 (length old.rows) c.raise-charge.result (take old.count old.rows) sound (omega arith) old.ordered }
 
 pub returns : goal.returns
 returns c =
@@ -33,5 +33,5 @@ returns c =
     let is : c.raise-charge.result ≡ charge_with v xs = c.raise-charge.ensures ∙ ap (λ o. raised o v.line v.seconds) c.find.ensures in
     record {
       after = same_table charge_line billed 64 _ _ (put_as c.raise-charge.result _ xs _ (length old.rows) c.put.ensures.after old.long is);
-      given = given_as c.put.result c.then-some.result c.raise-charge.result _ xs (length old.rows) c.then-some.ensures c.put.ensures.fits old.long is;
+      given = given_as c.put.result c.then_some.result c.raise-charge.result _ xs (length old.rows) c.then_some.ensures c.put.ensures.fits old.long is;
     }

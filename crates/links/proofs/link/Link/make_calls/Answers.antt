@@ -14,8 +14,8 @@ one_more limit was calls i d before now first h k e f =
 
 pub loop-call-preserved : goal.loop-call-preserved
 loop-call-preserved g c = (
-  c.make-call.ensures.kept ∙ c.loop-call.invariant.0,
-  one_more _ _ c.args.calls.now c.loop-call.call-index _ _ _ _ c.loop-call-test.true c.loop-call.invariant.0 c.loop-call.invariant.1 c.make-call.ensures.after,
+  c.make_call.ensures.kept ∙ c.loop-call.invariant.0,
+  one_more _ _ c.args.calls.now c.loop-call.call-index _ _ _ _ c.loop-call-test.true c.loop-call.invariant.0 c.loop-call.invariant.1 c.make_call.ensures.after,
 )
 
 pub returns : goal.returns

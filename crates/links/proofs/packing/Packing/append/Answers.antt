@@ -4,13 +4,13 @@ use Rattle.messages.specs.Messages.{content_of, as_long}
 use Rattle.links.proofs.Writing.{wrote_part, as_many}
 use Rattle.links.proofs.packing.Packing.append.Goals as goal
 
-pub invariant-of-self : goal.invariant-of-self
-invariant-of-self c =
+pub invariant_of-self : goal.invariant_of-self
+invariant_of-self c =
     let p = c.args.self.now in
     let m = content_of c.args.message in
     let l = as_long m in
     let w = ap length (wrote_part m p.bytes _ p.used _ c.write.result c.requires.short (omega (arith, c.weight.ensures.is)) (omega arith) c.write.ensures) in
-    (as_many p.bytes c.write.new.out p.used _ (omega arith) (omega arith) ∙ p.long, (omega arith, tt))
+    record { long = as_many p.bytes c.write.new.out p.used _ (omega arith) (omega arith) ∙ p.long; within = omega arith }
 
 pub returns : goal.returns
 returns c =

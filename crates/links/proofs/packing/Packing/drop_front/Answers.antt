@@ -11,6 +11,6 @@ moved xs ys used n le fits e =
 
 pub returns : goal.returns
 returns c = record {
-  bytes = moved c.args.self.now.bytes _ c.args.self.now.used c.args.weight c.requires.within (omega arith) c.copy-within.ensures.after;
+  bytes = moved c.args.self.now.bytes _ c.args.self.now.used c.args.weight c.requires.within (omega arith) c.copy_within.ensures.after;
   count = refl;
 }

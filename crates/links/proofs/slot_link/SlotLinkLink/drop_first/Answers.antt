@@ -6,13 +6,19 @@ use Rattle.links.proofs.Offers.{front_of}
 use Rattle.links.proofs.Slots.{holds_rest}
 use Rattle.links.proofs.slot_link.SlotLinkLink.drop_first.Goals as goal
 
-pub invariant-of-self : goal.invariant-of-self
-invariant-of-self c =
+pub invariant_of-self : goal.invariant_of-self
+invariant_of-self c =
     let l = c.args.self.now in
     let f = front_of (content_of c.in-Some.message) (slotted l.table l.first l.count) c.in-Some.ensures in
     let h = holds_rest l.table l.first l.count l.filled in
     let w = ap weigh_all h.are in
-    (l.long, (omega arith, (h.filled, (omega (arith, l.weighs, f.heavier, c.weight-weight.ensures.is, w), (omega (arith, l.light, f.heavier, w), tt)))))
+    record {
+      long = l.long;
+      within = omega arith;
+      filled = h.filled;
+      weighs = omega (arith, l.weighs, f.heavier, c.weight-weight.ensures.is, w);
+      light = omega (arith, l.light, f.heavier, w);
+    }
 
 pub returns : goal.returns
 returns c =

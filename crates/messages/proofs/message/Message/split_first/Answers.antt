@@ -12,36 +12,36 @@ spelt m xs body more v n long f ev en len tail =
     ∙ ap (λ l. l ++ take (length xs - 8) (drop 8 xs)) (sym (front 8 xs long))
     ∙ cut 8 xs
 
-pub returns-in-default : goal.returns-in-default
-returns-in-default c = record {
+pub returns-in_default : goal.returns-in_default
+returns-in_default c = record {
   one = one_message;
   exact = λ m more short e.
       let few : length c.args.bytes.now < 8 = search rules in
       omega (arith, (begins m more c.args.bytes.now e).header);
 }
 
-pub returns-then-length-gt-LONGEST-BODY : goal.returns-then-length-gt-LONGEST-BODY
-returns-then-length-gt-LONGEST-BODY c = record {
+pub returns-then-length-gt-LONGEST_BODY : goal.returns-then-length-gt-LONGEST_BODY
+returns-then-length-gt-LONGEST_BODY c = record {
   one = one_message;
   exact = λ m more short e.
       let xs = c.args.bytes.now in
       let f = begins m more xs e in
       let r = ap length (take_rest xs 8) in
-      elim c.then-length-gt-LONGEST-BODY.either [ inl long ↦ omega (arith, f.body_long) | inr w ↦ omega (arith, f.within, w.1) ];
+      elim c.then-length-gt-LONGEST_BODY.either [ inl long ↦ omega (arith, f.body_long) | inr w ↦ omega (arith, f.within, w.1) ];
 }
 
-pub returns-in-default-fit : goal.returns-in-default-fit
-returns-in-default-fit c = record {
+pub returns-in_default-fit : goal.returns-in_default-fit
+returns-in_default-fit c = record {
   one = one_message;
   exact = λ m more short e.
       let xs = c.args.bytes.now in
       let f = (begins m more xs e).fields in
       let len = c.from-length.ensures in
-      c.in-default-fit.ensures m (record {
+      c.in_default-fit.ensures m (record {
         kind_is = f.kind_is;
         version_is = f.version_is ∙ ap worth (sym c.get16.ensures) ∙ worth16 c.get16.result;
         number_is = f.number_is ∙ ap worth (sym c.get32.ensures) ∙ worth32 c.get32.result;
-        body_is = f.body_is ∙ (λ i. take (sym len i) (sym (take_rest xs 8) i)) ∙ sym c.split-at.ensures.front;
+        body_is = f.body_is ∙ (λ i. take (sym len i) (sym (take_rest xs 8) i)) ∙ sym c.split_at.ensures.front;
       });
 }
 
@@ -51,7 +51,7 @@ returns c =
     let long : 8 ≤ length xs = search rules in
     let f = c.in-Some.ensures in
     let r = ap length (take_rest xs 8) in
-    let len : length c.split-at.result.0.now ≡ get_or xs 1 0 = c.split-at.ensures.front-len ∙ c.from-length.ensures in
-    let whole : c.split-at.result.0.now ++ c.split-at.result.1.now ≡ take (length xs - 8) (drop 8 xs) = (λ i. c.split-at.ensures.front i ++ c.split-at.ensures.back i) ∙ take-append-drop c.from-length.result (take (length xs - 8) (drop 8 xs)) in
+    let len : length c.split_at.result.0.now ≡ get_or xs 1 0 = c.split_at.ensures.front_len ∙ c.from-length.ensures in
+    let whole : c.split_at.result.0.now ++ c.split_at.result.1.now ≡ take (length xs - 8) (drop 8 xs) = (λ i. c.split_at.ensures.front i ++ c.split_at.ensures.back i) ∙ take-append-drop c.from-length.result (take (length xs - 8) (drop 8 xs)) in
     let b = ap length f.body_is in
-    record { one = one_message; exact = (omega (arith, c.if-length-gt-LONGEST-BODY.false), spelt _ xs _ _ _ _ long f c.get16.ensures c.get32.ensures len whole) }
+    record { one = one_message; exact = (omega (arith, c.if-length-gt-LONGEST_BODY.false), spelt _ xs _ _ _ _ long f c.get16.ensures c.get32.ensures len whole) }

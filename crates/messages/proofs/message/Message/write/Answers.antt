@@ -20,7 +20,7 @@ returns c =
     let lb = ap length b in
     let p = c.put16.ensures ∙ ap be16 c.version.ensures in
     let q = c.put32.ensures ∙ ap be32 c.number.ensures in
-    let x : c.copy-from-slice.new.self ≡ kind_of m ∷ length (body_of m) ∷ be16 (version_of m) ++ be32 (number_of m) =
-    c.copy-from-slice.ensures.after ∙ (λ i. c.kind.ensures i ∷ lb i ∷ get_or (p i) 0 0 ∷ get_or (p i) 1 0 ∷ get_or (q i) 0 0 ∷ get_or (q i) 1 0 ∷ get_or (q i) 2 0 ∷ get_or (q i) 3 0 ∷ []) in
-    let y : c.copy-from-slice-2.new.self ≡ body_of m = c.copy-from-slice-2.ensures.after ∙ b in
-    (omega (arith, c.if-body-gt-LONGEST-BODY.false), omega (arith, c.if-out-body.false), laid c.args.out.now _ _ _ _ _ x y refl refl)
+    let x : c.copy_from_slice.new.self ≡ kind_of m ∷ length (body_of m) ∷ be16 (version_of m) ++ be32 (number_of m) =
+    c.copy_from_slice.ensures.after ∙ (λ i. c.kind.ensures i ∷ lb i ∷ get_or (p i) 0 0 ∷ get_or (p i) 1 0 ∷ get_or (q i) 0 0 ∷ get_or (q i) 1 0 ∷ get_or (q i) 2 0 ∷ get_or (q i) 3 0 ∷ []) in
+    let y : c.copy_from_slice-2.new.self ≡ body_of m = c.copy_from_slice-2.ensures.after ∙ b in
+    (omega (arith, c.if-body-gt-LONGEST_BODY.false), omega (arith, c.if-out-body.false), laid c.args.out.now _ _ _ _ _ x y refl refl)

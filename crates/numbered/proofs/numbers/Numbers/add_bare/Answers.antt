@@ -3,8 +3,8 @@ use Rattle.numbered.specs.Buffers.{holding, Bare, first_number, bare_count}
 use Rattle.numbered.proofs.Holdings.{refuses_bare}
 use Rattle.numbered.proofs.numbers.Numbers.add_bare.Goals as goal
 
-pub returns-then-value-count-gt0 : goal.returns-then-value-count-gt0
-returns-then-value-count-gt0 c =
+pub returns-then-value_count-gt0 : goal.returns-then-value_count-gt0
+returns-then-value_count-gt0 c =
     let old = c.args.self.now in
     record {
       answer = λ size table. sym (refuses_bare size old table (omega arith));
