@@ -93,7 +93,7 @@ fn sixty_four_acks_fill_a_slot_link_and_sixty_two_a_packed_one(rt: HostRuntime) 
     assert_eq!(rt; packed.count(), 61);
     let anew = [LinkCall::Clear, LinkCall::Offer(Message::csync(2))];
     packed.make_calls(&anew);
-    assert_eq!(rt; packed.bytes(), &[4, 0, 0, 2, 0, 0, 0, 0]);
+    assert_eq!(rt; packed.bytes(), [4, 0, 0, 2, 0, 0, 0, 0].as_slice());
 }
 
 #[test]
@@ -124,10 +124,10 @@ fn messages_lie_back_to_back_in_a_packed_link(rt: HostRuntime) -> Result<(), Fai
     packed.offer(Message::csync(3))?;
     assert_eq!(rt;
         packed.bytes(),
-        &[1, 2, 0, 0, 0, 0, 1, 2, 5, 6, 4, 0, 0, 3, 0, 0, 0, 0]
+        [1, 2, 0, 0, 0, 0, 1, 2, 5, 6, 4, 0, 0, 3, 0, 0, 0, 0].as_slice()
     );
     packed.drop_first()?;
-    assert_eq!(rt; packed.bytes(), &[4, 0, 0, 3, 0, 0, 0, 0]);
+    assert_eq!(rt; packed.bytes(), [4, 0, 0, 3, 0, 0, 0, 0].as_slice());
     Ok(())
 }
 

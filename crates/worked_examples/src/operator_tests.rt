@@ -71,7 +71,7 @@ fn a_sessions_state_is_a_count_and_rising_lines(rt: HostRuntime) {
     assert_eq!(rt; sessions.write_state(&mut out[0..16]), None);
     assert_eq!(rt; out, [5; 18]);
     assert_eq!(rt; sessions.write_state(&mut out), Some(17));
-    assert_eq!(rt; &out[0..17], &good);
+    assert_eq!(rt; &out[0..17], good.as_slice());
     assert_eq!(rt; out[17], 5);
     let bad: [&[u8]; 5] = [
         &[],
