@@ -3,6 +3,7 @@
 use day::bill::{Bill, bill_day};
 use day::unbilled::LONGEST_SCRIPT;
 use std::io::Read;
+use std::process::ExitCode;
 
 // Reads a script, or one byte past the longest, by which a longer one is known.
 fn read_script(rt: &HostRuntime) -> anyhow::Result<Vec<u8>> {
@@ -28,10 +29,10 @@ fn run(rt: &HostRuntime) -> anyhow::Result<()> {
     print_bill(rt, &bill)
 }
 
-fn main(rt: HostRuntime) -> anyhow::Result<()> {
-    let result = run(&rt);
-    if let Err(e) = &result {
+fn main(rt: HostRuntime) -> anyhow::Result<ExitCode> {
+    if let Err(e) = run(&rt) {
         eprintln!(rt; "billing: {e}")?;
+        return Ok(ExitCode::FAILURE);
     }
-    result
+    Ok(ExitCode::SUCCESS)
 }
