@@ -1,6 +1,5 @@
 -- A call's bytes: line, seconds.
-use Rattle.std.specs.Prelude.{◌≡◌, ℕ, List, ◌++◌, take, drop, Option, refl}
-use Rattle.std.proofs.Common.{arith}
+use Rattle.std.specs.Prelude.{ℕ, List, ◌++◌, take, drop, Option, refl}
 use Rattle.bodies.specs.declared.call.Call.{Call}
 use Rattle.bodies.specs.Numbers.{be32, worth, worth32}
 use Rattle.bodies.specs.Bodies.{BodyLaws, value_by, lawful_by}

@@ -1,6 +1,5 @@
 -- A charge's bytes: line, calls, seconds.
-use Rattle.std.specs.Prelude.{◌≡◌, ℕ, List, ◌++◌, take, drop, Option, refl}
-use Rattle.std.proofs.Common.{arith}
+use Rattle.std.specs.Prelude.{ℕ, List, ◌++◌, take, drop, Option, refl}
 use Rattle.bodies.specs.declared.charge.Charge.{Charge}
 use Rattle.bodies.specs.Numbers.{be32, be64, worth, worth32, worth64}
 use Rattle.bodies.specs.Bodies.{BodyLaws, value_by, lawful_by}

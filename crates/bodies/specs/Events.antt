@@ -1,6 +1,5 @@
 -- An event's bytes: line, stamp, kind.
 use Rattle.std.specs.Prelude.{◌≡◌, ℕ, cond, List, [], ◌∷◌, ◌++◌, take, drop, Option, ◌==◌, slice_index, refl}
-use Rattle.std.proofs.Common.{arith}
 use Rattle.bodies.specs.declared.event.Event.{Event}
 use Rattle.bodies.specs.declared.event.EventKind.{EventKind}
 use Rattle.bodies.specs.declared.event.EventKind.TheVariants.{Begin, End}

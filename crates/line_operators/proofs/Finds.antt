@@ -1,5 +1,5 @@
 -- What changes of a table leave of the other rows.
-use Rattle.std.proofs.Common.{◌≡◌, ℕ, suc, ◌+◌, ◌<◌, ◌≤◌, Bool, true, false, cond, leb, ◌⊎◌, List, [], ◌∷◌, length, Some, None, Option, sym, refl, ap, ◌∙◌, inl, inr, arith}
+use Rattle.std.proofs.Common.{◌≡◌, ℕ, suc, ◌<◌, ◌≤◌, Bool, true, false, cond, leb, ◌⊎◌, List, [], ◌∷◌, length, Some, None, Option, sym, refl, ap, ◌∙◌, inl, inr, arith}
 use Rattle.std.proofs.lemmas.Bool.{le-leb, lt-leb, cond-true, cond-false, cases_lt, cases_order}
 use Rattle.line_operators.specs.Rows.{orderly, found, with_row, put_in, without}
 use Rattle.line_operators.specs.RowSteps.{found_past, found_first, found_before, with_past, with_first, with_before, without_past, without_first, without_before}

@@ -1,7 +1,7 @@
 -- Rows in bytes: one more written, one more read.
-use Rattle.std.proofs.Common.{◌≡◌, ℕ, zero, suc, ◌+◌, ◌-◌, ◌*◌, ◌<◌, ◌≤◌, Bool, true, false, List, [], ◌∷◌, ◌++◌, length, get_or, take, drop, set, Ok, Err, Option, Result, sym, refl, ap, ◌∙◌, inl, inr, append_assoc, mul-le-mul_right, suc-mul, arith, length-append, length-drop, take-append-drop, length-take-le, get_or-take}
+use Rattle.std.proofs.Common.{◌≡◌, ℕ, suc, ◌+◌, ◌-◌, ◌*◌, ◌<◌, ◌≤◌, Bool, true, false, List, [], ◌∷◌, ◌++◌, length, get_or, take, drop, set, Ok, Err, Option, Result, sym, ap, ◌∙◌, inl, inr, append_assoc, mul-le-mul_right, suc-mul, arith, length-append, length-drop, length-take-le, get_or-take}
 use borrow.Rule.Slice.PartMut.{put_mid}
-use Rattle.std.proofs.lemmas.List.{take_at, drop_at, drop-drop, take_more, take_more_set, get_or_default, flat_map_more, append-nil}
+use Rattle.std.proofs.lemmas.List.{take_at, drop_at, take_more, take_more_set, get_or_default, flat_map_more}
 use Rattle.std.proofs.lemmas.Bool.{cases_Bool, both_ways}
 use Rattle.std.specs.List.{flat_map}
 use Rattle.bodies.specs.declared.body.WrongLength.{WrongLength}

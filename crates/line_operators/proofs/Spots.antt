@@ -1,5 +1,5 @@
 -- What the three operations do at a key's place.
-use Rattle.std.proofs.Common.{◌≡◌, ℕ, zero, suc, ◌+◌, ◌<◌, ◌≤◌, Bool, true, false, cond, List, [], ◌∷◌, ◌++◌, length, get_or, take, drop, set, Some, None, Option, sym, refl, ap, ◌∙◌, subst, arith, length-take-le, get_or-take}
+use Rattle.std.proofs.Common.{◌≡◌, ℕ, zero, suc, ◌<◌, ◌≤◌, Bool, true, false, List, [], ◌∷◌, length, get_or, take, set, Some, None, refl, ap, ◌∙◌, subst, arith, length-take-le, get_or-take}
 use Rattle.std.specs.List.{insert, remove}
 use Rattle.line_operators.specs.Rows.{found, with_row, without}
 use Rattle.line_operators.specs.RowSteps.{found_past, found_first, found_before, with_past, with_first, with_before, without_past, without_first, without_before}

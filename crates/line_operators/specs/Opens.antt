@@ -1,6 +1,5 @@
 -- An open line's bytes: line, stamp of its begin.
-use Rattle.std.specs.Prelude.{◌≡◌, ℕ, List, ◌++◌, take, drop, Option, refl}
-use Rattle.std.proofs.Common.{arith}
+use Rattle.std.specs.Prelude.{ℕ, List, ◌++◌, take, drop, Option, refl}
 use Rattle.bodies.specs.Numbers.{be32, worth, worth32}
 use Rattle.bodies.specs.Bodies.{BodyLaws, value_by, lawful_by}
 use Rattle.line_operators.specs.declared.open.Open.{Open}

@@ -6,7 +6,7 @@ use Rattle.std.proofs.lemmas.Bool.{cases_lt, lt-ltb, le-leb, leb-true, ltb-false
 use Rattle.bodies.specs.Weights.{header_length, weigh}
 use Rattle.numbered.specs.declared.buffer.Uninserted.TheVariants.{NoNumber, Full, ShortTable}
 use Rattle.numbered.specs.declared.numbers.Unadded.TheVariants as unadded
-use Rattle.numbered.specs.Buffers.{Holding, Values, Bare, between, empty, largest_number, first_number, next_number, bodies_of, bare_count, weight_of, has_places, has_space, finds_place, insertion, value_at, with_value, bare_from, evicted, bare_adding, Request, Insert, Evict, EvictThrough, AddBare, after}
+use Rattle.numbered.specs.Buffers.{Holding, Values, Bare, between, empty, largest_number, first_number, next_number, bodies_of, bare_count, weight_of, has_places, has_space, finds_place, insertion, value_at, with_value, evicted, bare_adding, Request, Insert, Evict, EvictThrough, AddBare, after}
 use Rattle.numbered.specs.BufferLaw.{taken_by, gone_by, after_all, taken_by_all, gone_by_all, standing, Keeps, Shows, CountsOn, StaysWithin}
 use Rattle.numbered.proofs.Holdings.{is_values, is_bare, used_up}
 

@@ -1,10 +1,10 @@
 -- A pipe of two operators is an operator.
-use Rattle.std.specs.Prelude.{◌≡◌, ℕ, ◌+◌, ◌-◌, ◌<◌, ◌≤◌, min, List, [], ◌∷◌, ◌++◌, length, get_or, take, drop, refl}
+use Rattle.std.specs.Prelude.{◌≡◌, ℕ, ◌≤◌, List, [], ◌∷◌, ◌++◌, length, take, drop, refl}
 use Rattle.std.proofs.Common.{sym, ap, ◌∙◌, arith, length-append}
 use Rattle.std.proofs.lemmas.List.{take_at, drop_at, append-nil}
 use Rattle.bodies.specs.Numbers.{be32, be32_apart}
-use Rattle.operators.specs.Operators.{OperatorLaws, unbounded}
-use Rattle.operators.specs.Pipes.{after_all, given_all, pipe_written, pipe_longest}
+use Rattle.operators.specs.Operators.{OperatorLaws}
+use Rattle.operators.specs.Pipes.{given_all, pipe_written, pipe_longest}
 
 -- what a pipe wrote is cut where it was joined
 pub record Cut (a b xs : List ℕ) (n : ℕ) : Type 0 where

@@ -5,7 +5,7 @@ use Rattle.std.proofs.lemmas.Bool.{le-leb, cond-true}
 use Rattle.std.proofs.lemmas.Bool.Decides.{nat_tests}
 use Rattle.std.proofs.lemmas.Fmt.{decimal_nonempty, digits_decimal, digits_value-decimal}
 use Rattle.std.proofs.lemmas.Str.Parse.{IsNumeralModel, numerals_by_fold}
-use Rattle.script.specs.Numbers.{digit, digits, value, fitting, with_digit, decimal, NumbersRight}
+use Rattle.script.specs.Numbers.{digits, value, fitting, with_digit, decimal, NumbersRight}
 
 -- what is read of the bytes that are left, after the number n
 abbrev pub onwards : ℕ → List ℕ → Option ℕ

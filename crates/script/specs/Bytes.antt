@@ -1,5 +1,5 @@
 -- Bytes that are cut into pieces at a mark: a text into lines at its newlines, a line into words at its spaces.
-use Rattle.std.specs.Prelude.{◌≡◌, ℕ, List, [], ◌∷◌, ◌≢◌}
+use Rattle.std.specs.Prelude.{ℕ, List, [], ◌∷◌, ◌≢◌}
 use Rattle.std.specs.List.{AllByRecursion as All}
 
 -- none of the bytes is the mark

@@ -1,4 +1,4 @@
-use Rattle.std.proofs.Common.{◌≡◌, ◌-◌, ◌≤◌, ◌++◌, length, take, drop, sym, ap, ◌∙◌, rules}
+use Rattle.std.proofs.Common.{◌-◌, ◌≤◌, ◌++◌, length, take, drop, sym, ap, ◌∙◌, rules}
 use Rattle.bodies.proofs.Heads.{front, cut}
 use Rattle.bodies.proofs.numbers.take32.Goals as goal
 

@@ -1,8 +1,7 @@
-use Rattle.std.proofs.Common.{◌≡◌, ℕ, ◌+◌, ◌<◌, ◌≤◌, List, [], ◌∷◌, ◌++◌, length, Some, None, vec_items, Option, sym, refl, ap, ◌∙◌, append_assoc, arith}
+use Rattle.std.proofs.Common.{◌≡◌, ℕ, ◌+◌, List, ◌∷◌, ◌++◌, Some, sym, ap, ◌∙◌, append_assoc, arith}
 use Rattle.bodies.specs.declared.event.Event.{Event}
 use Rattle.bodies.specs.declared.call.Call.{Call}
 use Rattle.bodies.specs.declared.charge.Charge.{Charge}
-use Rattle.operators.specs.Operators.{listed}
 use Rattle.operators.specs.Pipes.{after_all, given_all}
 use Rattle.script.specs.Lines.{lines}
 use Rattle.day.specs.declared.entry.Entry.{Entry}

@@ -1,4 +1,4 @@
-use Rattle.std.proofs.Common.{◌≡◌, sym, subst, arith}
+use Rattle.std.proofs.Common.{sym, subst}
 use Rattle.line_operators.specs.Sessions.{none_open, sessions_next, sessions_gives, sessions_laws}
 use Rattle.script.specs.Lines.{lines}
 use Rattle.day.specs.Events.{events}

@@ -1,5 +1,5 @@
-use Rattle.std.proofs.Common.{◌≡◌, length, take, refl, ap, ◌∙◌, arith}
-use Rattle.line_operators.specs.Rows.{orderly, put_in}
+use Rattle.std.proofs.Common.{length, take, refl, ap, ◌∙◌, arith}
+use Rattle.line_operators.specs.Rows.{orderly}
 use Rattle.line_operators.specs.RowLaws.{put_orderly}
 use Rattle.line_operators.specs.Sessions.{open_line, any_open}
 use Rattle.line_operators.proofs.sessions.Sessions.begin.Goals as goal

@@ -1,4 +1,4 @@
-use Rattle.std.proofs.Common.{◌≡◌, length, take, refl, ap, ◌∙◌, arith}
+use Rattle.std.proofs.Common.{take, ap, ◌∙◌, arith}
 use Rattle.line_operators.specs.Rows.{orderly}
 use Rattle.line_operators.specs.RowLaws.{without_orderly}
 use Rattle.line_operators.specs.Sessions.{open_line, any_open}

@@ -1,4 +1,4 @@
-use Rattle.std.proofs.Common.{◌≡◌, take, sym, refl, ap, ◌∙◌}
+use Rattle.std.proofs.Common.{take, sym, ap, ◌∙◌}
 use Rattle.line_operators.specs.Tables.{same_table}
 use Rattle.line_operators.specs.Sessions.{open_line, any_open, open_after, called}
 use Rattle.line_operators.proofs.sessions.SessionsOperator.take.Goals as goal

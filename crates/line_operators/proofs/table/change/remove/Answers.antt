@@ -1,4 +1,4 @@
-use Rattle.std.proofs.Common.{◌≡◌, ℕ, true, false, get_or, take, Some, sym, refl, ap, ◌∙◌, arith, get_or-take}
+use Rattle.std.proofs.Common.{ℕ, true, false, take, Some, sym, refl, ap, ◌∙◌, arith, get_or-take}
 use Rattle.line_operators.specs.Places.{Place}
 use Rattle.line_operators.proofs.Spots.{found_here, found_not, without_here, without_not, moved}
 use Rattle.line_operators.proofs.table.change.remove.Goals as goal

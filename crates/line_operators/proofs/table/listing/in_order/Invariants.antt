@@ -1,4 +1,3 @@
-use Rattle.std.proofs.Common.{ℕ}
 use Rattle.line_operators.proofs.Listings.{Checked}
 use Rattle.line_operators.proofs.table.listing.in_order.Given as goal
 

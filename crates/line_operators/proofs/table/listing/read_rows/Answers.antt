@@ -1,4 +1,4 @@
-use Rattle.std.proofs.Common.{◌≡◌, ℕ, take, sym, ap, ◌∙◌}
+use Rattle.std.proofs.Common.{ℕ, take, sym, ap, ◌∙◌}
 use Rattle.std.proofs.lemmas.Bool.{both_ways}
 use Rattle.line_operators.specs.Rows.{orderly}
 use Rattle.line_operators.specs.RowLaws.{listing_apart}

@@ -1,8 +1,8 @@
-use Rattle.std.proofs.Common.{◌≡◌, ℕ, Bool, true, false, cond, leb, List, [], ◌∷◌, length, take, Option, sym, refl, ap, ◌∙◌, arith}
+use Rattle.std.proofs.Common.{◌≡◌, ℕ, Bool, true, false, cond, leb, List, [], ◌∷◌, length, take, Option, refl, ap, ◌∙◌, arith}
 use Rattle.std.specs.Bool.{then_some}
 use Rattle.bodies.specs.declared.charge.Charge.{Charge}
 use Rattle.operators.specs.Operators.{listed}
-use Rattle.line_operators.specs.Rows.{orderly, found, with_row, put_in}
+use Rattle.line_operators.specs.Rows.{orderly, with_row, put_in}
 use Rattle.line_operators.specs.RowLaws.{put_orderly}
 use Rattle.line_operators.specs.Tables.{same_table}
 use Rattle.line_operators.specs.Totals.{charge_line, billed, charge_with, charged, raised, raised_billed}

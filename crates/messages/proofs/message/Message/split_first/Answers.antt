@@ -1,7 +1,7 @@
-use Rattle.std.proofs.Common.{◌≡◌, ℕ, ◌-◌, ◌<◌, ◌≤◌, List, [], ◌∷◌, ◌++◌, length, get_or, take, drop, sym, refl, ap, ◌∙◌, inl, inr, arith, take-append-drop, rules}
+use Rattle.std.proofs.Common.{◌≡◌, ℕ, ◌-◌, ◌<◌, ◌≤◌, List, [], ◌∷◌, ◌++◌, length, get_or, take, drop, sym, ap, ◌∙◌, inl, inr, arith, take-append-drop, rules}
 use Rattle.std.proofs.lemmas.List.{take_rest}
 use Rattle.bodies.specs.Numbers.{be16, be32, worth, worth16, worth32}
-use Rattle.messages.specs.Messages.{Content, Fields, message_bytes, body_of, begins, one_message}
+use Rattle.messages.specs.Messages.{Content, Fields, message_bytes, begins, one_message}
 use Rattle.bodies.proofs.Heads.{front, cut}
 use Rattle.messages.proofs.message.Message.split_first.Goals as goal
 

@@ -1,4 +1,4 @@
-use Rattle.std.proofs.Common.{◌≡◌, length, sym, ap, ◌∙◌, arith, length-append}
+use Rattle.std.proofs.Common.{length, sym, ap, ◌∙◌, arith, length-append}
 use Rattle.operators.specs.PipeLaws.{cut_of}
 use Rattle.operators.proofs.pipe.PipeOperator.read_state.Goals as goal
 

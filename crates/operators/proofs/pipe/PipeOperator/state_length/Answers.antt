@@ -1,4 +1,4 @@
-use Rattle.std.proofs.Common.{min, length, arith, length-append}
+use Rattle.std.proofs.Common.{arith, length-append}
 use Rattle.operators.proofs.pipe.PipeOperator.state_length.Goals as goal
 
 pub returns : goal.returns
