@@ -13,11 +13,11 @@ use Rattle.day.specs.Events.{events, bad_line}
 abbrev pub shown : List Call → List Charge → List Entry
 shown calls charges = map entry.Call calls ++ map entry.Charge charges
 
-module _ {S T : Type 0} (OpenNext : S → Event → S) (calls : S → Event → List Call) (next : T → Call → T) (charges : T → Call → List Charge) where
+module _ {S T : Type 0} (open_next : S → Event → S) (calls : S → Event → List Call) (next : T → Call → T) (charges : T → Call → List Charge) where
   -- what one operator gives over events, and another over what that gives, in the order in which it is given
   abbrev pub entries : S → T → List Event → List Entry
   entries s t [] = []
-  entries s t (e ∷ es) = shown (calls s e) (given_all next charges t (calls s e)) ++ entries (OpenNext s e) (after_all next t (calls s e)) es
+  entries s t (e ∷ es) = shown (calls s e) (given_all next charges t (calls s e)) ++ entries (open_next s e) (after_all next t (calls s e)) es
 
   -- a text's bill: the entries of its events up to the first bad line, and that line's number
   pub record Billed (s : S) (t : T) (text : List ℕ) (bill : List Entry) (bad : Option ℕ) : Type 0 where

@@ -1,6 +1,6 @@
 -- The laws of lines, and the first line of a text that is cut at its first newline.
 use Rattle.std.proofs.Common.{◌≡◌, ℕ, ◌<◌, ◌≤◌, Bool, true, false, cond, eqb, List, [], ◌∷◌, ◌++◌, length, Some, None, Option, sym, refl, ap, ◌∙◌, subst, arith, Bor, MatchOption}
-use Rattle.std.specs.List.{flat_map, AllByRecursion as All}
+use Rattle.std.specs.List.{flat_map, AllByRecursion}
 use Rattle.std.specs.Option.{option_or}
 use Rattle.std.proofs.lemmas.Bool.{eqb-true}
 use Rattle.script.specs.Bytes.{Without, front}
@@ -32,7 +32,7 @@ rejoin (b ∷ c ∷ cs) =
     let some : 1 ≤ length (lines (c ∷ cs)) = rw (lines_first (c ∷ cs) (omega arith)) (omega arith) in
     earlier_byte b (lines (c ∷ cs)) (closed (c ∷ cs)) some (rejoin (c ∷ cs)) (eqb b 10) refl
 
-unbroken : (text : List ℕ) → All (Without 10) (lines text)
+unbroken : (text : List ℕ) → AllByRecursion (Without 10) (lines text)
 unbroken [] = tt
 unbroken (b ∷ bs) = byte_without 10 b (lines bs) (unbroken bs) (eqb b 10) refl
 

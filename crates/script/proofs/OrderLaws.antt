@@ -1,7 +1,7 @@
 -- A line gives an order just where it says a command whose words are numbers.
 use Rattle.std.proofs.Common.{◌≡◌, ℕ, Bool, true, false, cond, eqb, List, [], ◌∷◌, Some, None, Option, sym, refl, ap, ◌∙◌, arith, Bor}
 use Rattle.std.specs.Option.{option_map}
-use Rattle.std.specs.List.{AllByRecursion as All}
+use Rattle.std.specs.List.{AllByRecursion}
 use Rattle.std.proofs.ByRecursion.{All-weaker}
 use Rattle.std.proofs.lemmas.Bool.{eqb-true}
 use Rattle.script.specs.declared.commands.Command.{Command}
@@ -53,10 +53,10 @@ to bytes = record { ref_ptr = (0, 0); now = bytes }
 
 -- no command, no order
 module _ (line : List ℕ) (unsaid : (c : Command) → Says line c → ⊥) where
-  not_by : (c : Command) (l : ℕ) → spaced ((l ∷ []) ∷ arguments c) ≡ line → eqb l (letter c) ≡ true → All Word (arguments c) → ⊥
+  not_by : (c : Command) (l : ℕ) → spaced ((l ∷ []) ∷ arguments c) ≡ line → eqb l (letter c) ≡ true → AllByRecursion Word (arguments c) → ⊥
   not_by c l is same proper = unsaid c (proper, sym is ∙ ap (λ x. spaced ((x ∷ []) ∷ arguments c)) (eqb-true l (letter c) same))
 
-  unsaid_in : (pieces : List (List ℕ)) → spaced pieces ≡ line → All (Without 32) pieces → order_in pieces ≡ None
+  unsaid_in : (pieces : List (List ℕ)) → spaced pieces ≡ line → AllByRecursion (Without 32) pieces → order_in pieces ≡ None
   unsaid_in [] is solid = refl
   unsaid_in ([] ∷ more) is solid = refl
   unsaid_in ((l ∷ m ∷ ms) ∷ more) is solid = refl

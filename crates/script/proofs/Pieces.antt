@@ -2,7 +2,7 @@
 use Rattle.std.proofs.Common.{◌≡◌, ℕ, ◌+◌, ◌-◌, ◌<◌, ◌≤◌, Bool, true, false, cond, eqb, List, [], ◌∷◌, ◌++◌, length, get_or, take, drop, sym, ap, ◌∙◌, arith, take-append-drop}
 use Rattle.std.proofs.lemmas.List.{drop_more, take_rest}
 use Rattle.std.proofs.lemmas.Bool.{eqb-false, ne_eqb, cond-false}
-use Rattle.std.specs.List.{AllByRecursion as All}
+use Rattle.std.specs.List.{AllByRecursion}
 use Rattle.script.specs.Bytes.{Without, front}
 
 -- the bytes up to a mark, the mark and the bytes after it
@@ -17,7 +17,7 @@ pub no_mark : {A : Type 0} (mark b : ℕ) (x y : A) → (b ≡ mark → ⊥) →
 no_mark mark b x y apart = cond-false (eqb b mark) x y (ne_eqb b mark apart)
 
 -- a byte before pieces that hold no mark: it parts them, or stands in front of the first
-pub byte_without : (mark b : ℕ) (pieces : List (List ℕ)) → All (Without mark) pieces → (v : Bool) → eqb b mark ≡ v → All (Without mark) (cond v ([] ∷ pieces) (front b pieces))
+pub byte_without : (mark b : ℕ) (pieces : List (List ℕ)) → AllByRecursion (Without mark) pieces → (v : Bool) → eqb b mark ≡ v → AllByRecursion (Without mark) (cond v ([] ∷ pieces) (front b pieces))
 byte_without mark b pieces all true is = (tt, all)
 byte_without mark b [] all false is = ((eqb-false b mark is, tt), tt)
 byte_without mark b (piece ∷ more) all false is = ((eqb-false b mark is, all.0), all.1)

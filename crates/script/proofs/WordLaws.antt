@@ -1,6 +1,6 @@
 -- The law of words, and the words after a letter.
 use Rattle.std.proofs.Common.{◌≡◌, ℕ, ◌≤◌, Bool, true, false, cond, eqb, List, [], ◌∷◌, ◌++◌, length, drop, sym, refl, ap, ◌∙◌, subst, arith}
-use Rattle.std.specs.List.{AllByRecursion as All}
+use Rattle.std.specs.List.{AllByRecursion}
 use Rattle.std.proofs.lemmas.Bool.{eqb-true}
 use Rattle.script.specs.Bytes.{Without, front}
 use Rattle.script.specs.Words.{words, spaced, WordsRight, Word, EndsWith}
@@ -25,7 +25,7 @@ rejoin : (line : List ℕ) → spaced (words line) ≡ line
 rejoin [] = refl
 rejoin (b ∷ bs) = spaced_byte b (words bs) (eqb b 32) (words_some bs) refl ∙ ap (λ l. b ∷ l) (rejoin bs)
 
-solid : (line : List ℕ) → All (Without 32) (words line)
+solid : (line : List ℕ) → AllByRecursion (Without 32) (words line)
 solid [] = (tt, tt)
 solid (b ∷ bs) = byte_without 32 b (words bs) (solid bs) (eqb b 32) refl
 
@@ -38,7 +38,7 @@ words_last : (w : List ℕ) → Without 32 w → words w ≡ w ∷ []
 words_last [] apart = refl
 words_last (b ∷ bs) apart = no_mark 32 b _ _ apart.0 ∙ ap (front b) (words_last bs apart.1)
 
-pub words_spaced : (pieces : List (List ℕ)) → 1 ≤ length pieces → All (Without 32) pieces → words (spaced pieces) ≡ pieces
+pub words_spaced : (pieces : List (List ℕ)) → 1 ≤ length pieces → AllByRecursion (Without 32) pieces → words (spaced pieces) ≡ pieces
 words_spaced [] some all = absurd (omega arith)
 words_spaced (w ∷ []) some all = words_last w all.0
 words_spaced (w ∷ v ∷ vs) some all = words_first w (spaced (v ∷ vs)) all.0 ∙ ap (λ l. w ∷ l) (words_spaced (v ∷ vs) (omega arith) all.1)

@@ -1,6 +1,6 @@
 -- How a line says a command: its letter, and then its words.
 use Rattle.std.specs.Prelude.{◌≡◌, ℕ, List, [], ◌∷◌}
-use Rattle.std.specs.List.{AllByRecursion as All}
+use Rattle.std.specs.List.{AllByRecursion}
 use Rattle.script.specs.Words.{Word, spaced}
 use Rattle.script.specs.declared.commands.Command.{Command}
 use Rattle.script.specs.declared.commands.Command.TheVariants.{Begin, End, Turn, Fail, Avail}
@@ -23,4 +23,4 @@ arguments (Avail side) = side.now ∷ []
 
 -- the line is the command's letter and its words, with one space between, and nothing else
 abbrev pub Says : List ℕ → Command → Type 0
-Says text command = All Word (arguments command) × (text ≡ spaced ((letter command ∷ []) ∷ arguments command))
+Says text command = AllByRecursion Word (arguments command) × (text ≡ spaced ((letter command ∷ []) ∷ arguments command))

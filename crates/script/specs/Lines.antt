@@ -1,7 +1,7 @@
 -- The lines of a text. A newline, byte 10, ends a line; the last line may lack its newline.
 use Rattle.std.specs.Prelude.{◌≡◌, ℕ, ◌<◌, ◌≤◌, true, false, cond, List, [], ◌∷◌, ◌++◌, length, ◌==◌, refl}
 use Rattle.std.proofs.Common.{arith, ap}
-use Rattle.std.specs.List.{flat_map, AllByRecursion as All}
+use Rattle.std.specs.List.{flat_map, AllByRecursion}
 use Rattle.script.specs.Bytes.{Without, front}
 
 -- all lines of a text, without their newlines
@@ -34,7 +34,7 @@ pub record Cut (text line rest : List ℕ) : Type 0 where
 
 -- The law of lines: each followed by a newline they are the text, closed by a newline, and no line holds one.
 abbrev pub LinesRight : Type 0
-LinesRight = (text : List ℕ) → (flat_map (λ line. line ++ 10 ∷ []) (lines text) ≡ closed text) × All (Without 10) (lines text)
+LinesRight = (text : List ℕ) → (flat_map (λ line. line ++ 10 ∷ []) (lines text) ≡ closed text) × AllByRecursion (Without 10) (lines text)
 
 -- an empty text has no line
 pub lines_none : lines [] ≡ []

@@ -1,6 +1,6 @@
 -- The words of a line, which single spaces, byte 32, part.
 use Rattle.std.specs.Prelude.{◌≡◌, ℕ, ◌≤◌, cond, List, [], ◌∷◌, ◌++◌, length, ◌==◌}
-use Rattle.std.specs.List.{AllByRecursion as All}
+use Rattle.std.specs.List.{AllByRecursion}
 use Rattle.script.specs.Bytes.{Without, front}
 
 -- a line cut at each space: two spaces in a row, or one at an end, leave an empty piece
@@ -18,8 +18,8 @@ spaced (w ∷ v ∷ vs) = w ++ 32 ∷ spaced (v ∷ vs)
 -- and they are the only pieces of which that is so.
 abbrev pub WordsRight : Type 0
 WordsRight =
-    ((line : List ℕ) → (spaced (words line) ≡ line) × All (Without 32) (words line)) ×
-    ((pieces : List (List ℕ)) → 1 ≤ length pieces → All (Without 32) pieces → words (spaced pieces) ≡ pieces)
+    ((line : List ℕ) → (spaced (words line) ≡ line) × AllByRecursion (Without 32) (words line)) ×
+    ((pieces : List (List ℕ)) → 1 ≤ length pieces → AllByRecursion (Without 32) pieces → words (spaced pieces) ≡ pieces)
 
 -- a word proper: one byte or more, and no space
 abbrev pub Word : List ℕ → Type 0
@@ -32,4 +32,4 @@ added (w ∷ ws) = 32 ∷ spaced (w ∷ ws)
 
 -- the end of a line, after the letter of its command, is these words
 abbrev pub EndsWith : List ℕ → List (List ℕ) → Type 0
-EndsWith rest ws = All Word ws × (rest ≡ added ws)
+EndsWith rest ws = AllByRecursion Word ws × (rest ≡ added ws)
