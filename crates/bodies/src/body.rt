@@ -1,4 +1,5 @@
-ghost use Rattle.std.specs.Prelude.{◌≡◌, ℕ, ◌≤◌, List, Option};
+ghost use Rattle.std.specs.Prelude.{◌≡◌, ℕ, ◌+◌, ◌<◌, ◌≤◌, List, length, Option, MatchOption};
+ghost use Rattle.std.specs.List.{flat_map};
 ghost use Rattle.bodies.specs.Bodies.{BodyLaws, Wrote};
 ghost use Rattle.bodies.specs.Weights.{longest_body};
 
@@ -32,13 +33,29 @@ pub trait Body: Copy {
         ensures { result ≡ value from.now };
 }
 
-// Bytes put over lent bytes of the same number; else those stay.
-pub fn put(bytes: &[u8], out: &mut [u8]) -> Result<(), WrongLength>
-    ensures { Wrote bytes.now out.old out.new result }
+// How many of so many bytes are left behind parts, if they are enough.
+fn left_behind(parts: &[&[u8]], whole: usize) -> Option<usize>
+    ensures { MatchOption result (whole < length (flat_map (λ p. p.now) parts.now)) (λ left. left + length (flat_map (λ p. p.now) parts.now) ≡ whole) }
 {
-    if out.len() != bytes.len() {
+    let mut left = whole;
+    for part in parts {
+        left = left.checked_sub(part.len())?;
+    }
+    Some(left)
+}
+
+// Parts put one behind another over lent bytes of just their number; else those stay.
+pub fn put(parts: &[&[u8]], out: &mut [u8]) -> Result<(), WrongLength>
+    ensures { Wrote (flat_map (λ p. p.now) parts.now) out.old out.new result }
+{
+    if left_behind(parts, out.len()) != Some(0) {
         return Err(WrongLength);
     }
-    out.copy_from_slice(bytes);
+    let mut at = 0;
+    for part in parts {
+        let end = at + part.len();
+        out[at..end].copy_from_slice(part);
+        at = end;
+    }
     Ok(())
 }

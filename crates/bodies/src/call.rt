@@ -2,7 +2,7 @@ ghost use Rattle.std.specs.Prelude.{◌≡◌};
 ghost use Rattle.bodies.specs.Calls.{call_bytes, call_value, call_laws};
 
 use super::body::{Body, WrongLength, put};
-use super::numbers::{put32, take32};
+use super::numbers::Number;
 
 // A line's call that ended, and how long it was.
 #[derive(Clone, Copy, PartialEq, Debug)]
@@ -25,17 +25,12 @@ impl Body for Call {
     }
 
     fn write(&self, out: &mut [u8]) -> Result<(), WrongLength> {
-        let [l0, l1, l2, l3] = put32(self.line);
-        let [s0, s1, s2, s3] = put32(self.seconds);
-        put(&[l0, l1, l2, l3, s0, s1, s2, s3], out)
+        put(&[&self.line.to_bytes(), &self.seconds.to_bytes()], out)
     }
 
     fn read(from: &[u8]) -> Option<Call> {
-        let (line, rest) = take32(from)?;
-        let (seconds, rest) = take32(rest)?;
-        let [] = rest else {
-            return None;
-        };
-        Some(Call { line, seconds })
+        let (line, rest) = u32::take(from)?;
+        let (seconds, rest) = u32::take(rest)?;
+        rest.is_empty().then_some(Call { line, seconds })
     }
 }

@@ -1,8 +1,8 @@
 ghost use Rattle.std.specs.Prelude.{◌≡◌};
-ghost use Rattle.bodies.specs.Events.{event_bytes, event_value, event_laws, kind_byte};
+ghost use Rattle.bodies.specs.Events.{event_bytes, event_value, event_laws, kind_byte, Decodes};
 
 use super::body::{Body, WrongLength, put};
-use super::numbers::{put32, take32};
+use super::numbers::Number;
 
 #[derive(Clone, Copy, PartialEq, Debug)]
 pub enum EventKind {
@@ -10,13 +10,31 @@ pub enum EventKind {
     End,
 }
 
-impl EventKind {
-    fn byte(self) -> u8
-        ensures { result ≡ kind_byte self }
-    {
-        match self {
+// A byte that stands for no kind.
+#[derive(Clone, Copy, PartialEq, Debug)]
+pub struct UnknownKind;
+
+impl From<EventKind> for u8 {
+    ghost from_gives = { λ kind byte. byte ≡ kind_byte kind };
+
+    fn from(kind: EventKind) -> u8 {
+        match kind {
             EventKind::Begin => 1,
             EventKind::End => 2,
+        }
+    }
+}
+
+impl TryFrom<u8> for EventKind {
+    type Error = UnknownKind;
+
+    ghost try_from_gives = { Decodes };
+
+    fn try_from(byte: u8) -> Result<EventKind, UnknownKind> {
+        match byte {
+            1 => Ok(EventKind::Begin),
+            2 => Ok(EventKind::End),
+            _ => Err(UnknownKind),
         }
     }
 }
@@ -43,19 +61,23 @@ impl Body for Event {
     }
 
     fn write(&self, out: &mut [u8]) -> Result<(), WrongLength> {
-        let [l0, l1, l2, l3] = put32(self.line);
-        let [s0, s1, s2, s3] = put32(self.stamp);
-        put(&[l0, l1, l2, l3, s0, s1, s2, s3, self.kind.byte()], out)
+        put(
+            &[
+                &self.line.to_bytes(),
+                &self.stamp.to_bytes(),
+                &[self.kind.into()],
+            ],
+            out,
+        )
     }
 
     fn read(from: &[u8]) -> Option<Event> {
-        let (line, rest) = take32(from)?;
-        let (stamp, rest) = take32(rest)?;
-        let kind = match rest {
-            [1] => EventKind::Begin,
-            [2] => EventKind::End,
-            _ => return None,
+        let (line, rest) = u32::take(from)?;
+        let (stamp, rest) = u32::take(rest)?;
+        let [kind] = rest else {
+            return None;
         };
+        let kind = EventKind::try_from(*kind).ok()?;
         Some(Event { line, stamp, kind })
     }
 }

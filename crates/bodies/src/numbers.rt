@@ -1,58 +1,75 @@
-ghost use Rattle.std.specs.Prelude.{◌≡◌, ◌<◌, List, [], ◌∷◌, ◌++◌, length, MatchOption};
+ghost use Rattle.std.specs.Prelude.{◌≡◌, ℕ, ◌<◌, ◌≤◌, List, ◌++◌, length, MatchOption};
+ghost use Rattle.std.proofs.Common.{lit≤};
 ghost use Rattle.bodies.specs.Numbers.{be16, be32, be64};
 
-// The two bytes of a number, the highest first.
-pub fn put16(n: u16) -> [u8; 2]
-    ensures { result ≡ be16 n }
-{
-    n.to_be_bytes()
+// A number that fills a fixed number of bytes, the highest first.
+pub trait Number<const N: usize>: Copy {
+    // what a number writes
+    ghost bytes: { Self → List ℕ };
+
+    // no number is wider
+    ghost narrow: { N ≤ 8 };
+
+    fn to_bytes(self) -> [u8; N]
+        ensures { result ≡ bytes self };
+
+    // The number that the bytes write.
+    fn from_bytes(from: [u8; N]) -> Self
+        ensures { bytes result ≡ from.entry };
+
+    // The number that the first bytes write, and the bytes behind them.
+    fn take(from: &[u8]) -> Option<(Self, &[u8])>
+        ensures { MatchOption result (length from.now < N) (λ p. bytes p.0 ++ p.1.now ≡ from.now) }
+    {
+        let (first, rest) = from.split_first_chunk()?;
+        Some((Self::from_bytes(*first), rest))
+    }
 }
 
-// The four bytes of a number, the highest first.
-pub fn put32(n: u32) -> [u8; 4]
-    ensures { result ≡ be32 n }
-{
-    n.to_be_bytes()
+impl Number<2> for u16 {
+    ghost bytes = { be16 };
+
+    ghost narrow = { lit≤ tt };
+
+    fn to_bytes(self) -> [u8; 2] {
+        u16::to_be_bytes(self)
+    }
+
+    fn from_bytes(from: [u8; 2]) -> u16
+        ensures { be16 result ≡ from }
+    {
+        u16::from_be_bytes(from)
+    }
 }
 
-// The eight bytes of a number, the highest first.
-pub fn put64(n: u64) -> [u8; 8]
-    ensures { result ≡ be64 n }
-{
-    let [a0, a1, a2, a3] = put32((n / 0x1_0000_0000) as u32);
-    let [b0, b1, b2, b3] = put32((n % 0x1_0000_0000) as u32);
-    [a0, a1, a2, a3, b0, b1, b2, b3]
+impl Number<4> for u32 {
+    ghost bytes = { be32 };
+
+    ghost narrow = { lit≤ tt };
+
+    fn to_bytes(self) -> [u8; 4] {
+        u32::to_be_bytes(self)
+    }
+
+    fn from_bytes(from: [u8; 4]) -> u32
+        ensures { be32 result ≡ from }
+    {
+        u32::from_be_bytes(from)
+    }
 }
 
-// The number that two bytes write.
-pub fn get16(b0: u8, b1: u8) -> u16
-    ensures { be16 result ≡ b0 ∷ b1 ∷ [] }
-{
-    u16::from_be_bytes([b0, b1])
-}
+impl Number<8> for u64 {
+    ghost bytes = { be64 };
 
-// The number that four bytes write.
-pub fn get32(b0: u8, b1: u8, b2: u8, b3: u8) -> u32
-    ensures { be32 result ≡ b0 ∷ b1 ∷ b2 ∷ b3 ∷ [] }
-{
-    u32::from_be_bytes([b0, b1, b2, b3])
-}
+    ghost narrow = { lit≤ tt };
 
-// The number that the first four bytes write, and the bytes behind them.
-pub fn take32(from: &[u8]) -> Option<(u32, &[u8])>
-    ensures { MatchOption result (length from.now < 4) (λ p. be32 p.0 ++ p.1.now ≡ from.now) }
-{
-    let [b0, b1, b2, b3, rest @ ..] = from else {
-        return None;
-    };
-    Some((get32(*b0, *b1, *b2, *b3), rest))
-}
+    fn to_bytes(self) -> [u8; 8] {
+        u64::to_be_bytes(self)
+    }
 
-// The number that the first eight bytes write, and the bytes behind them.
-pub fn take64(from: &[u8]) -> Option<(u64, &[u8])>
-    ensures { MatchOption result (length from.now < 8) (λ p. be64 p.0 ++ p.1.now ≡ from.now) }
-{
-    let (high, rest) = take32(from)?;
-    let (low, rest) = take32(rest)?;
-    Some((u64::from(high) * 0x1_0000_0000 + u64::from(low), rest))
+    fn from_bytes(from: [u8; 8]) -> u64
+        ensures { be64 result ≡ from }
+    {
+        u64::from_be_bytes(from)
+    }
 }

@@ -3,7 +3,7 @@ ghost use Rattle.line_operators.specs.Opens.{open_bytes, open_value, open_laws};
 
 use super::table::Row;
 use bodies::body::{Body, WrongLength, put};
-use bodies::numbers::{put32, take32};
+use bodies::numbers::Number;
 
 // A line whose call has begun.
 #[derive(Clone, Copy, PartialEq, Debug)]
@@ -26,18 +26,13 @@ impl Body for Open {
     }
 
     fn write(&self, out: &mut [u8]) -> Result<(), WrongLength> {
-        let [l0, l1, l2, l3] = put32(self.line);
-        let [s0, s1, s2, s3] = put32(self.stamp);
-        put(&[l0, l1, l2, l3, s0, s1, s2, s3], out)
+        put(&[&self.line.to_bytes(), &self.stamp.to_bytes()], out)
     }
 
     fn read(from: &[u8]) -> Option<Open> {
-        let (line, rest) = take32(from)?;
-        let (stamp, rest) = take32(rest)?;
-        let [] = rest else {
-            return None;
-        };
-        Some(Open { line, stamp })
+        let (line, rest) = u32::take(from)?;
+        let (stamp, rest) = u32::take(rest)?;
+        rest.is_empty().then_some(Open { line, stamp })
     }
 }
 

@@ -6,6 +6,9 @@ use Rattle.messages.specs.declared.message.Unwritten.{Unwritten}
 use Rattle.messages.specs.declared.message.Unwritten.TheVariants.{LongBody, WrongLength}
 use Rattle.messages.specs.declared.message.Message.{Message}
 use Rattle.messages.specs.declared.message.Message.TheVariants as case
+use Rattle.messages.specs.declared.kind.Kind.{Kind}
+use Rattle.messages.specs.declared.kind.Kind.TheVariants as kind
+use Rattle.messages.specs.Kinds.{kind_byte}
 use Rattle.bodies.specs.Numbers.{be16, be32, worth, worth16, worth32}
 use Rattle.bodies.specs.Weights.{header_length, weigh, longest_body}
 
@@ -44,13 +47,13 @@ weight_of m = weigh (length (body_of m))
 abbrev pub Short : Content → Type 0
 Short m = length (body_of m) ≤ longest_body
 
-abbrev pub kind_of : Content → ℕ
-kind_of (Record n b) = 1
-kind_of (Result n b) = 2
-kind_of (Ack n) = 3
-kind_of (Csync v) = 4
-kind_of (Psync v) = 5
-kind_of Reverse = 6
+abbrev pub kind_of : Content → Kind
+kind_of (Record n b) = kind.Record
+kind_of (Result n b) = kind.Result
+kind_of (Ack n) = kind.Ack
+kind_of (Csync v) = kind.Csync
+kind_of (Psync v) = kind.Psync
+kind_of Reverse = kind.Reverse
 
 -- zero but in a csync or psync
 abbrev pub version_of : Content → ℕ
@@ -72,7 +75,7 @@ number_of Reverse = 0
 
 -- the header, then the body
 abbrev pub message_bytes : Content → List ℕ
-message_bytes m = kind_of m ∷ length (body_of m) ∷ be16 (version_of m) ++ be32 (number_of m) ++ body_of m
+message_bytes m = kind_byte (kind_of m) ∷ length (body_of m) ∷ be16 (version_of m) ++ be32 (number_of m) ++ body_of m
 
 -- a message has as many bytes as it weighs
 abbrev pub AsLong : Type 0
@@ -81,9 +84,9 @@ AsLong = (m : Content) → length (message_bytes m) ≡ weight_of m
 pub as_long : AsLong
 as_long m = omega arith
 
--- a message's fields and body
-pub record Fields (m : Content) (kind version number : ℕ) (body : List ℕ) : Type 0 where
-  pub kind_is : kind_of m ≡ kind
+-- a message's fields, the kind as its byte, and its body
+pub record Fields (m : Content) (byte version number : ℕ) (body : List ℕ) : Type 0 where
+  pub kind_is : kind_byte (kind_of m) ≡ byte
   pub version_is : version_of m ≡ version
   pub number_is : number_of m ≡ number
   pub body_is : body_of m ≡ body
@@ -99,7 +102,7 @@ unfoldable pub from_fields : ℕ → ℕ → ℕ → List ℕ → Content
 from_fields k v n b =
     cond (k == 1) (Record n b) (cond (k == 2) (Result n b) (cond (k == 3) (Ack n) (cond (k == 4) (Csync v) (cond (k == 5) (Psync v) Reverse))))
 
-fields_back : (m : Content) → from_fields (kind_of m) (version_of m) (number_of m) (body_of m) ≡ m
+fields_back : (m : Content) → from_fields (kind_byte (kind_of m)) (version_of m) (number_of m) (body_of m) ≡ m
 unfolding from_fields
 fields_back (Record n b) = refl
 fields_back (Result n b) = refl
@@ -108,8 +111,8 @@ fields_back (Csync v) = refl
 fields_back (Psync v) = refl
 fields_back Reverse = refl
 
-pub fields_apart : (m n : Content) (kind version number : ℕ) (body : List ℕ) → Fields m kind version number body → Fields n kind version number body → m ≡ n
-fields_apart m n kind version number body f g =
+pub fields_apart : (m n : Content) (byte version number : ℕ) (body : List ℕ) → Fields m byte version number body → Fields n byte version number body → m ≡ n
+fields_apart m n byte version number body f g =
     sym (fields_back m)
     ∙ (λ i. from_fields ((f.kind_is ∙ sym g.kind_is) i) ((f.version_is ∙ sym g.version_is) i) ((f.number_is ∙ sym g.number_is) i) ((f.body_is ∙ sym g.body_is) i))
     ∙ fields_back n

@@ -1,4 +1,5 @@
 // What the units tell each other, in bytes.
 #![tactic(auto)]
 
+mod kind;
 pub mod message;

@@ -1,7 +1,12 @@
 ghost use Rattle.std.specs.Prelude.{◌≡◌, ℕ, ◌<◌, List, ◌++◌, length, MatchOption, ◌≢◌};
+ghost use Rattle.messages.specs.Kinds.{kind_byte};
+ghost use Rattle.messages.specs.declared.message.Unwritten.TheVariants.{WrongLength};
 ghost use Rattle.messages.specs.Messages.{Content, Ack, Csync, Psync, Reverse, content_of, body_of, kind_of, version_of, number_of, weight_of, message_bytes, Short, Fields, MessageWrote, OneMessage, AsLong};
 
-use bodies::numbers::{get16, get32, put16, put32};
+use super::kind::Kind;
+use bodies::body;
+use bodies::body::put;
+use bodies::numbers::Number;
 use bodies::weight::HEADER_LENGTH;
 
 // The longest body.
@@ -12,6 +17,14 @@ pub const LONGEST_BODY: usize = 40;
 pub enum Unwritten {
     LongBody,
     WrongLength,
+}
+
+impl From<body::WrongLength> for Unwritten {
+    ghost from_gives = { λ _ r. r ≡ WrongLength };
+
+    fn from(_e: body::WrongLength) -> Unwritten {
+        Unwritten::WrongLength
+    }
 }
 
 // What one unit tells another, with the body where it lies.
@@ -53,16 +66,16 @@ impl Message<'static> {
 }
 
 impl<'a> Message<'a> {
-    fn kind(&self) -> u8
+    fn kind(&self) -> Kind
         ensures { result ≡ kind_of (content_of self.now) }
     {
         match self {
-            Message::Record { .. } => 1,
-            Message::Result { .. } => 2,
-            Message::Ack { .. } => 3,
-            Message::Csync { .. } => 4,
-            Message::Psync { .. } => 5,
-            Message::Reverse => 6,
+            Message::Record { .. } => Kind::Record,
+            Message::Result { .. } => Kind::Result,
+            Message::Ack { .. } => Kind::Ack,
+            Message::Csync { .. } => Kind::Csync,
+            Message::Psync { .. } => Kind::Psync,
+            Message::Reverse => Kind::Reverse,
         }
     }
 
@@ -112,71 +125,61 @@ impl<'a> Message<'a> {
         if body.len() > LONGEST_BODY {
             return Err(Unwritten::LongBody);
         }
-        if out.len() != HEADER_LENGTH + body.len() {
-            return Err(Unwritten::WrongLength);
-        }
-        let [v0, v1] = put16(self.version());
-        let [n0, n1, n2, n3] = put32(self.number());
-        out[0..HEADER_LENGTH].copy_from_slice(&[
-            self.kind(),
-            body.len() as u8,
-            v0,
-            v1,
-            n0,
-            n1,
-            n2,
-            n3,
-        ]);
-        out[HEADER_LENGTH..].copy_from_slice(body);
+        put(
+            &[
+                &[self.kind().into(), body.len() as u8],
+                &self.version().to_bytes(),
+                &self.number().to_bytes(),
+                body,
+            ],
+            out,
+        )?;
         Ok(())
     }
 
     // The message of a header's fields and a body, which must fit together.
-    fn fit(kind: u8, version: u16, number: u32, body: &'a [u8]) -> Option<Message<'a>>
-        ensures { MatchOption result ((m : Content) → Fields m kind version number body.now → ⊥) (λ m. Fields (content_of m) kind version number body.now) }
+    fn fit(kind: Kind, version: u16, number: u32, body: &'a [u8]) -> Option<Message<'a>>
+        ensures { MatchOption result ((m : Content) → Fields m (kind_byte kind) version number body.now → ⊥) (λ m. Fields (content_of m) (kind_byte kind) version number body.now) }
     {
         match (kind, version, number, body) {
-            (1, 0, _, _) => Some(Message::Record { number, body }),
-            (2, 0, _, _) => Some(Message::Result { number, body }),
-            (3, 0, _, []) => Some(Message::Ack { number }),
-            (4, _, 0, []) => Some(Message::Csync { version }),
-            (5, _, 0, []) => Some(Message::Psync { version }),
-            (6, 0, 0, []) => Some(Message::Reverse),
+            (Kind::Record, 0, _, _) => Some(Message::Record { number, body }),
+            (Kind::Result, 0, _, _) => Some(Message::Result { number, body }),
+            (Kind::Ack, 0, _, []) => Some(Message::Ack { number }),
+            (Kind::Csync, _, 0, []) => Some(Message::Csync { version }),
+            (Kind::Psync, _, 0, []) => Some(Message::Psync { version }),
+            (Kind::Reverse, 0, 0, []) => Some(Message::Reverse),
             _ => None,
         }
     }
 
     // The message that the bytes begin with, and the bytes behind it.
+    #[tactic(auto, using(crate::specs::Messages::one_message))]
     pub fn split_first(bytes: &'a [u8]) -> Option<(Message<'a>, &'a [u8])>
         ensures one { OneMessage }
         ensures exact { MatchOption result ((m : Content) (more : List ℕ) → Short m → message_bytes m ++ more ≢ bytes.now) (λ p. Short (content_of p.0) × (message_bytes (content_of p.0) ++ p.1.now ≡ bytes.now)) }
     {
-        let [kind, length, v0, v1, n0, n1, n2, n3, rest @ ..] = bytes else {
+        let [kind, length, rest @ ..] = bytes else {
             return None;
         };
+        let kind = Kind::try_from(*kind).ok()?;
         let length = usize::from(*length);
-        if length > LONGEST_BODY || length > rest.len() {
+        let (version, rest) = u16::take(rest)?;
+        let (number, rest) = u32::take(rest)?;
+        if length > LONGEST_BODY {
             return None;
         }
-        let (body, more) = rest.split_at(length);
-        let Some(message) = Message::fit(*kind, get16(*v0, *v1), get32(*n0, *n1, *n2, *n3), body)
-        else {
-            return None;
-        };
+        let (body, more) = rest.split_at_checked(length)?;
+        let message = Message::fit(kind, version, number, body)?;
         Some((message, more))
     }
 
     // The message that the bytes are.
+    #[tactic(auto, using(crate::specs::Messages::one_message))]
     pub fn read(bytes: &'a [u8]) -> Option<Message<'a>>
         ensures one { OneMessage }
         ensures exact { MatchOption result ((m : Content) → Short m → message_bytes m ≢ bytes.now) (λ m. Short (content_of m) × (message_bytes (content_of m) ≡ bytes.now)) }
     {
-        let Some((message, more)) = Message::split_first(bytes) else {
-            return None;
-        };
-        if !more.is_empty() {
-            return None;
-        }
-        Some(message)
+        let (message, more) = Message::split_first(bytes)?;
+        more.is_empty().then_some(message)
     }
 }

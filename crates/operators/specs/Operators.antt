@@ -1,5 +1,6 @@
 -- What an operator owes of what it gives and of its state's writing.
-use Rattle.std.specs.Prelude.{◌≡◌, ℕ, ◌<◌, ◌≤◌, Bool, true, false, List, [], ◌∷◌, length, Some, None, Option, ◌≢◌}
+use Rattle.std.specs.Prelude.{◌≡◌, ℕ, ◌<◌, ◌≤◌, List, [], ◌∷◌, length, Some, None, Ok, Err, Option, Result, ◌≢◌}
+use Rattle.operators.specs.declared.operator.NoState.{NoState}
 
 -- a longest length of this much promises nothing
 abbrev pub unbounded : ℕ
@@ -19,6 +20,6 @@ listed None = []
 listed (Some x) = x ∷ []
 
 -- an operator is set to the state that bytes write, or is as it was where none does
-abbrev pub Restored : {P State : Type 0} → (P → State) → (State → List ℕ) → ℕ → List ℕ → P → P → Bool → Type 0
-Restored state written longest from old new true = longest < unbounded → written (state new) ≡ from
-Restored {State = State} state written longest from old new false = (new ≡ old) × (longest < unbounded → (s : State) → written s ≢ from)
+abbrev pub Restored : {P State : Type 0} → (P → State) → (State → List ℕ) → ℕ → List ℕ → P → P → Result (Unit {0}) NoState → Type 0
+Restored state written longest from old new (Ok _) = longest < unbounded → written (state new) ≡ from
+Restored {State = State} state written longest from old new (Err _) = (new ≡ old) × (longest < unbounded → (s : State) → written s ≢ from)

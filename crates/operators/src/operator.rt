@@ -4,6 +4,10 @@ ghost use Rattle.operators.specs.Operators.{OperatorLaws, Restored, listed, unbo
 
 use bodies::body::Body;
 
+// Bytes that no state writes.
+#[derive(Clone, Copy, PartialEq, Debug)]
+pub struct NoState;
+
 // Takes values of one body kind and gives values of another, by its state and the value alone.
 pub trait Operator: Drop {
     type In: Body;
@@ -54,12 +58,9 @@ pub trait Operator: Drop {
 }
 
 // Sets an operator to the state that the bytes write; refused bytes leave it as it was.
-pub fn restore<P: Operator>(operator: &mut P, from: &[u8]) -> bool
+pub fn restore<P: Operator>(operator: &mut P, from: &[u8]) -> Result<(), NoState>
     ensures { Restored P.Operator.state P.Operator.written P.Operator.longest from.now operator.old operator.new result }
 {
-    let Some(read) = P::read_state(from) else {
-        return false;
-    };
-    *operator = read;
-    true
+    *operator = P::read_state(from).ok_or(NoState)?;
+    Ok(())
 }

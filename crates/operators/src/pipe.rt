@@ -4,7 +4,7 @@ ghost use Rattle.operators.specs.Pipes.{after_all, given_all, pipe_next, pipe_gi
 ghost use Rattle.operators.specs.PipeLaws.{pipe_laws};
 
 use super::operator::Operator;
-use bodies::numbers::{put32, take32};
+use bodies::numbers::Number;
 
 // Two operators: what the first, in front, gives goes into the second, at the back.
 #[derive(Drop)]
@@ -78,11 +78,11 @@ impl<F: Operator, S: Operator<In = F::Out>> Operator for Pipe<F, S> {
         }
         let front = self.front.state_length();
         let back = self.back.state_length();
-        let whole = front.saturating_add(back).saturating_add(4);
+        let whole = self.state_length();
         if out.len() < whole {
             return None;
         }
-        out[0..4].copy_from_slice(&put32(front as u32));
+        out[0..4].copy_from_slice(&(front as u32).to_bytes());
         // Parts of just the states' lengths refuse neither state.
         let _ = self.front.write_state(&mut out[4..4 + front]);
         let _ = self.back.write_state(&mut out[4 + front..whole]);
@@ -90,18 +90,10 @@ impl<F: Operator, S: Operator<In = F::Out>> Operator for Pipe<F, S> {
     }
 
     fn read_state(from: &[u8]) -> Option<Pipe<F, S>> {
-        let (length, rest) = take32(from)?;
-        let length = length as usize;
-        if length > rest.len() {
-            return None;
-        }
-        let (front, back) = rest.split_at(length);
-        let Some(front) = F::read_state(front) else {
-            return None;
-        };
-        let Some(back) = S::read_state(back) else {
-            return None;
-        };
+        let (length, rest) = u32::take(from)?;
+        let (front, back) = rest.split_at_checked(length as usize)?;
+        let front = F::read_state(front)?;
+        let back = S::read_state(back)?;
         Some(Pipe { front, back })
     }
 }

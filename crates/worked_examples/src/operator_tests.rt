@@ -3,7 +3,7 @@ use bodies::charge::Charge;
 use bodies::event::{Event, EventKind};
 use line_operators::sessions::Sessions;
 use line_operators::totals::Totals;
-use operators::operator::{Operator, restore};
+use operators::operator::{NoState, Operator, restore};
 use operators::pipe::Pipe;
 
 fn begin(line: u32, stamp: u32) -> Event {
@@ -66,7 +66,7 @@ fn the_33rd_line_is_dropped(rt: HostRuntime) {
 fn a_sessions_state_is_a_count_and_rising_lines(rt: HostRuntime) {
     let good = [2, 0, 0, 0, 7, 0, 0, 0, 1, 0, 0, 0, 9, 0, 0, 0, 2];
     let mut sessions = Sessions::start();
-    assert!(rt; restore(&mut sessions, &good));
+    assert_eq!(rt; restore(&mut sessions, &good), Ok(()));
     let mut out = [5u8; 18];
     assert_eq!(rt; sessions.write_state(&mut out[0..16]), None);
     assert_eq!(rt; out, [5; 18]);
@@ -81,7 +81,7 @@ fn a_sessions_state_is_a_count_and_rising_lines(rt: HostRuntime) {
         &[2, 0, 0, 0, 9, 0, 0, 0, 1, 0, 0, 0, 7, 0, 0, 0, 2],
     ];
     for bytes in bad {
-        assert!(rt; !restore(&mut sessions, bytes));
+        assert_eq!(rt; restore(&mut sessions, bytes), Err(NoState));
     }
     assert_eq!(rt; sessions.state_length(), 17);
 }
@@ -92,7 +92,7 @@ fn totals_stop_at_the_largest_and_hold_no_line_without_calls(rt: HostRuntime) {
     let full = [
         1, 0, 0, 0, 7, 255, 255, 255, 255, 255, 255, 255, 255, 255, 255, 255, 254,
     ];
-    assert!(rt; restore(&mut totals, &full));
+    assert_eq!(rt; restore(&mut totals, &full), Ok(()));
     assert_eq!(rt;
         totals.take(Call {
             line: 7,
@@ -105,7 +105,7 @@ fn totals_stop_at_the_largest_and_hold_no_line_without_calls(rt: HostRuntime) {
         })
     );
     let none = [1, 0, 0, 0, 7, 0, 0, 0, 0, 0, 0, 0, 0, 0, 0, 0, 0];
-    assert!(rt; !restore(&mut totals, &none));
+    assert_eq!(rt; restore(&mut totals, &none), Err(NoState));
 }
 
 #[test]
@@ -153,10 +153,10 @@ fn a_pipe_writes_both_states(rt: HostRuntime) {
             0, 0, 0, 1, 0, 1, 0, 0, 0, 7, 0, 0, 0, 1, 0, 0, 0, 0, 0, 0, 0, 60,
         ]
     );
-    assert!(rt; restore(&mut pipe, &out));
+    assert_eq!(rt; restore(&mut pipe, &out), Ok(()));
     out[3] = 2;
-    assert!(rt; !restore(&mut pipe, &out));
+    assert_eq!(rt; restore(&mut pipe, &out), Err(NoState));
     out[3] = 200;
-    assert!(rt; !restore(&mut pipe, &out));
+    assert_eq!(rt; restore(&mut pipe, &out), Err(NoState));
     assert_eq!(rt; Pipe::<Sessions, Totals>::longest(), 1286);
 }
