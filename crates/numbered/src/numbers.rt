@@ -73,9 +73,7 @@ impl Numbers {
         if self.value_count() > 0 {
             return Err(Unadded::HoldsValues);
         }
-        let Some(number) = self.gone.checked_add(1) else {
-            return Err(Unadded::NoNumber);
-        };
+        let number = self.gone.checked_add(1).ok_or(Unadded::NoNumber)?;
         if (self.bare_count() as usize + 1) * HEADER_LENGTH > self.limit as usize {
             return Err(Unadded::Full);
         }

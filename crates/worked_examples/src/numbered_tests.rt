@@ -2,9 +2,10 @@ use bodies::body::Body;
 use bodies::call::Call;
 use bodies::charge::Charge;
 use bodies::event::{Event, EventKind};
-use numbered::buffer::{Uninserted, cursor, entry, evict, has_space, insert, weight};
+use numbered::buffer::Uninserted;
 use numbered::entry::Entry;
 use numbered::numbers::{Numbers, Unadded};
+use std::ops::Range;
 use std::process::Abort;
 
 fn event(line: u32) -> Event {
@@ -27,24 +28,18 @@ fn charge(line: u32) -> Charge {
     }
 }
 
-// Inserts events of lines that are their numbers.
-fn insert_events(rt: &impl Abort, table: &mut [u8], numbers: &mut Numbers, from: u32, to: u32) {
-    for n in from..to {
-        assert_eq!(rt; insert(table, numbers, event(n)), Ok(n));
-    }
-}
-
-// The same of calls.
-fn insert_calls(rt: &impl Abort, table: &mut [u8], numbers: &mut Numbers, from: u32, to: u32) {
-    for n in from..to {
-        assert_eq!(rt; insert(table, numbers, call(n)), Ok(n));
-    }
-}
-
-// The same of charges.
-fn insert_charges(rt: &impl Abort, table: &mut [u8], numbers: &mut Numbers, from: u32, to: u32) {
-    for n in from..to {
-        assert_eq!(rt; insert(table, numbers, charge(n)), Ok(n));
+// Inserts values that are made of their numbers, with the numbers from one up to another.
+fn insert_all<B: Body, F: Fn(u32) -> B>(
+    rt: &impl Abort,
+    table: &mut [u8],
+    numbers: &mut Numbers,
+    made: Range<u32>,
+    value: F,
+)
+    requires { F.IsAlwaysCallable value }
+{
+    for n in made {
+        assert_eq!(rt; numbers.insert(table, value(n)), Ok(n));
     }
 }
 
@@ -58,44 +53,44 @@ fn value<B: Body>(entry: Option<Entry<'_>>) -> Option<(u32, B)> {
 fn a_buffer_of_4096_bytes_takes_240_events(rt: HostRuntime) {
     let mut table = [0u8; 2160];
     let mut numbers = Numbers::new(4096);
-    insert_events(&rt, &mut table, &mut numbers, 1, 241);
-    assert_eq!(rt; weight::<Event>(&numbers), 4080);
-    assert!(rt; !has_space::<Event>(&numbers));
+    insert_all(&rt, &mut table, &mut numbers, 1..241, event);
+    assert_eq!(rt; numbers.weight::<Event>(), 4080);
+    assert!(rt; !numbers.has_space::<Event>());
     assert_eq!(rt;
-        insert(&mut table, &mut numbers, event(241)),
+        numbers.insert(&mut table, event(241)),
         Err(Uninserted::Full)
     );
     for n in 1..4u32 {
         assert_eq!(rt;
-            value::<Event>(evict::<Event>(&table, &mut numbers)),
+            value::<Event>(numbers.evict::<Event>(&table)),
             Some((n, event(n)))
         );
     }
-    insert_events(&rt, &mut table, &mut numbers, 241, 244);
+    insert_all(&rt, &mut table, &mut numbers, 241..244, event);
     assert_eq!(rt;
-        value::<Event>(cursor::<Event>(&table, &numbers, 0)),
+        value::<Event>(numbers.cursor::<Event>(&table, 0)),
         Some((4, event(4)))
     );
     assert_eq!(rt;
-        value::<Event>(cursor::<Event>(&table, &numbers, 241)),
+        value::<Event>(numbers.cursor::<Event>(&table, 241)),
         Some((241, event(241)))
     );
     assert_eq!(rt;
-        value::<Event>(entry::<Event>(&table, &numbers, 243)),
+        value::<Event>(numbers.entry::<Event>(&table, 243)),
         Some((243, event(243)))
     );
-    assert!(rt; entry::<Event>(&table, &numbers, 3).is_none());
-    assert!(rt; entry::<Event>(&table, &numbers, 244).is_none());
-    assert!(rt; cursor::<Event>(&table, &numbers, 244).is_none());
+    assert!(rt; numbers.entry::<Event>(&table, 3).is_none());
+    assert!(rt; numbers.entry::<Event>(&table, 244).is_none());
+    assert!(rt; numbers.cursor::<Event>(&table, 244).is_none());
 }
 
 #[test]
 fn a_buffer_of_4096_bytes_takes_256_calls(rt: HostRuntime) {
     let mut table = [0u8; 2048];
     let mut numbers = Numbers::new(4096);
-    insert_calls(&rt, &mut table, &mut numbers, 1, 257);
+    insert_all(&rt, &mut table, &mut numbers, 1..257, call);
     assert_eq!(rt;
-        insert(&mut table, &mut numbers, call(257)),
+        numbers.insert(&mut table, call(257)),
         Err(Uninserted::Full)
     );
 }
@@ -104,9 +99,9 @@ fn a_buffer_of_4096_bytes_takes_256_calls(rt: HostRuntime) {
 fn a_buffer_of_4096_bytes_takes_170_charges(rt: HostRuntime) {
     let mut table = [0u8; 2720];
     let mut numbers = Numbers::new(4096);
-    insert_charges(&rt, &mut table, &mut numbers, 1, 171);
+    insert_all(&rt, &mut table, &mut numbers, 1..171, charge);
     assert_eq!(rt;
-        insert(&mut table, &mut numbers, charge(171)),
+        numbers.insert(&mut table, charge(171)),
         Err(Uninserted::Full)
     );
 }
@@ -124,25 +119,22 @@ fn a_buffer_of_4096_bytes_takes_512_bare_numbers(rt: HostRuntime) {
 fn calls_up_to_a_number_leave(rt: HostRuntime) {
     let mut table = [0u8; 24];
     let mut numbers = Numbers::new(63);
-    assert_eq!(rt; insert(&mut table, &mut numbers, call(1)), Ok(1));
-    assert_eq!(rt; insert(&mut table, &mut numbers, call(2)), Ok(2));
-    assert_eq!(rt; insert(&mut table, &mut numbers, call(3)), Ok(3));
-    assert_eq!(rt;
-        insert(&mut table, &mut numbers, call(4)),
-        Err(Uninserted::Full)
-    );
+    assert_eq!(rt; numbers.insert(&mut table, call(1)), Ok(1));
+    assert_eq!(rt; numbers.insert(&mut table, call(2)), Ok(2));
+    assert_eq!(rt; numbers.insert(&mut table, call(3)), Ok(3));
+    assert_eq!(rt; numbers.insert(&mut table, call(4)), Err(Uninserted::Full));
     numbers.evict_through(2);
     numbers.evict_through(1);
-    assert_eq!(rt; insert(&mut table, &mut numbers, call(4)), Ok(4));
-    assert_eq!(rt; insert(&mut table, &mut numbers, call(5)), Ok(5));
-    assert_eq!(rt; weight::<Call>(&numbers), 48);
+    assert_eq!(rt; numbers.insert(&mut table, call(4)), Ok(4));
+    assert_eq!(rt; numbers.insert(&mut table, call(5)), Ok(5));
+    assert_eq!(rt; numbers.weight::<Call>(), 48);
     for n in 3..6u32 {
         assert_eq!(rt;
-            value::<Call>(evict::<Call>(&table, &mut numbers)),
+            value::<Call>(numbers.evict::<Call>(&table)),
             Some((n, call(n)))
         );
     }
-    assert!(rt; evict::<Call>(&table, &mut numbers).is_none());
+    assert!(rt; numbers.evict::<Call>(&table).is_none());
     numbers.evict_through(9);
     assert_eq!(rt;
         numbers,
@@ -159,30 +151,27 @@ fn charges_are_refused_and_leave_all_as_it_was(rt: HostRuntime) {
     let mut short = [9u8; 31];
     let mut numbers = Numbers::new(48);
     assert_eq!(rt;
-        insert(&mut short, &mut numbers, charge(1)),
+        numbers.insert(&mut short, charge(1)),
         Err(Uninserted::ShortTable)
     );
     assert_eq!(rt; numbers, Numbers::new(48));
     assert_eq!(rt; short, [9; 31]);
     let mut small = Numbers::new(23);
-    assert_eq!(rt;
-        insert(&mut short, &mut small, charge(1)),
-        Err(Uninserted::Full)
-    );
+    assert_eq!(rt; small.insert(&mut short, charge(1)), Err(Uninserted::Full));
     let mut table = [9u8; 32];
     let mut numbers = Numbers {
         limit: 48,
         gone: 4294967294,
         last: 4294967294,
     };
-    assert_eq!(rt; insert(&mut table, &mut numbers, charge(1)), Ok(4294967295));
+    assert_eq!(rt; numbers.insert(&mut table, charge(1)), Ok(4294967295));
     assert_eq!(rt;
-        insert(&mut table, &mut numbers, charge(2)),
+        numbers.insert(&mut table, charge(2)),
         Err(Uninserted::NoNumber)
     );
-    assert!(rt; evict::<Charge>(&short, &mut numbers).is_none());
+    assert!(rt; numbers.evict::<Charge>(&short).is_none());
     assert_eq!(rt;
-        value::<Charge>(evict::<Charge>(&table, &mut numbers)),
+        value::<Charge>(numbers.evict::<Charge>(&table)),
         Some((4294967295, charge(1)))
     );
     assert_eq!(rt; numbers.add_bare(), Err(Unadded::NoNumber));
@@ -195,17 +184,17 @@ fn bare_numbers_are_used_up_by_values(rt: HostRuntime) {
     assert_eq!(rt; numbers.add_bare(), Ok(1));
     assert_eq!(rt; numbers.add_bare(), Ok(2));
     assert_eq!(rt; numbers.add_bare(), Err(Unadded::Full));
-    assert_eq!(rt; weight::<Call>(&numbers), 16);
-    assert!(rt; has_space::<Call>(&numbers));
+    assert_eq!(rt; numbers.weight::<Call>(), 16);
+    assert!(rt; numbers.has_space::<Call>());
     numbers.evict_through(2);
-    assert!(rt; evict::<Call>(&table, &mut numbers).is_none());
-    assert_eq!(rt; insert(&mut table, &mut numbers, call(1)), Ok(1));
-    assert_eq!(rt; insert(&mut table, &mut numbers, call(2)), Ok(2));
+    assert!(rt; numbers.evict::<Call>(&table).is_none());
+    assert_eq!(rt; numbers.insert(&mut table, call(1)), Ok(1));
+    assert_eq!(rt; numbers.insert(&mut table, call(2)), Ok(2));
     assert_eq!(rt; table, [0; 8]);
-    assert_eq!(rt; insert(&mut table, &mut numbers, call(3)), Ok(3));
+    assert_eq!(rt; numbers.insert(&mut table, call(3)), Ok(3));
     assert_eq!(rt; numbers.add_bare(), Err(Unadded::HoldsValues));
     assert_eq!(rt;
-        value::<Call>(cursor::<Call>(&table, &numbers, 1)),
+        value::<Call>(numbers.cursor::<Call>(&table, 1)),
         Some((3, call(3)))
     );
     numbers.evict_through(3);

@@ -6,37 +6,25 @@ use line_operators::totals::Totals;
 use operators::operator::{NoState, Operator, restore};
 use operators::pipe::Pipe;
 
-fn begin(line: u32, stamp: u32) -> Event {
-    Event {
-        line,
-        stamp,
-        kind: EventKind::Begin,
-    }
-}
-
-fn end(line: u32, stamp: u32) -> Event {
-    Event {
-        line,
-        stamp,
-        kind: EventKind::End,
-    }
+fn event(kind: EventKind, line: u32, stamp: u32) -> Event {
+    Event { line, stamp, kind }
 }
 
 #[test]
 fn the_clock_starts_again(rt: HostRuntime) {
     let mut sessions = Sessions::start();
-    assert_eq!(rt; sessions.take(begin(7, 4294967290)), None);
+    assert_eq!(rt; sessions.take(event(EventKind::Begin, 7, 4294967290)), None);
     assert_eq!(rt;
-        sessions.take(end(7, 5)),
+        sessions.take(event(EventKind::End, 7, 5)),
         Some(Call {
             line: 7,
             seconds: 11,
         })
     );
-    assert_eq!(rt; sessions.take(end(7, 6)), None);
-    assert_eq!(rt; sessions.take(begin(7, 100)), None);
+    assert_eq!(rt; sessions.take(event(EventKind::End, 7, 6)), None);
+    assert_eq!(rt; sessions.take(event(EventKind::Begin, 7, 100)), None);
     assert_eq!(rt;
-        sessions.take(end(7, 40)),
+        sessions.take(event(EventKind::End, 7, 40)),
         Some(Call {
             line: 7,
             seconds: 4294967236,
@@ -48,12 +36,12 @@ fn the_clock_starts_again(rt: HostRuntime) {
 fn the_33rd_line_is_dropped(rt: HostRuntime) {
     let mut sessions = Sessions::start();
     for line in 0..33u32 {
-        assert_eq!(rt; sessions.take(begin(line, 1)), None);
+        assert_eq!(rt; sessions.take(event(EventKind::Begin, line, 1)), None);
     }
-    assert_eq!(rt; sessions.take(begin(31, 5)), None);
-    assert_eq!(rt; sessions.take(end(32, 9)), None);
+    assert_eq!(rt; sessions.take(event(EventKind::Begin, 31, 5)), None);
+    assert_eq!(rt; sessions.take(event(EventKind::End, 32, 9)), None);
     assert_eq!(rt;
-        sessions.take(end(31, 9)),
+        sessions.take(event(EventKind::End, 31, 9)),
         Some(Call {
             line: 31,
             seconds: 4,
@@ -134,9 +122,9 @@ fn the_65th_line_gives_no_charge(rt: HostRuntime) {
 #[test]
 fn a_pipe_writes_both_states(rt: HostRuntime) {
     let mut pipe = Pipe::<Sessions, Totals>::start();
-    assert_eq!(rt; pipe.take(begin(7, 100)), None);
+    assert_eq!(rt; pipe.take(event(EventKind::Begin, 7, 100)), None);
     assert_eq!(rt;
-        pipe.take(end(7, 160)),
+        pipe.take(event(EventKind::End, 7, 160)),
         Some(Charge {
             line: 7,
             calls: 1,

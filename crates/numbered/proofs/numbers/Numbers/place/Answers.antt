@@ -3,12 +3,12 @@ use Rattle.std.proofs.lemmas.Bool.{cond-true}
 use Rattle.numbered.specs.Buffers.{places, has_places}
 use Rattle.numbered.proofs.Rings.{place_within}
 use Rattle.numbered.proofs.Holdings.{all_places}
-use Rattle.numbered.proofs.buffer.place.Goals as goal
+use Rattle.numbered.proofs.numbers.Numbers.place.Goals as goal
 
 pub returns : goal.returns
 returns g c =
     let size = g.B.Body.size in
-    let limit = c.args.limit in
+    let limit = c.args.self.now.limit in
     let number = c.args.number in
     let long = length c.args.table.now in
     let p = places limit size in
