@@ -1,19 +1,14 @@
 -- An event's bytes: line, stamp, kind.
-use Rattle.std.specs.Prelude.{◌≡◌, ℕ, cond, Result, MatchResult, ◌≢◌, List, [], ◌∷◌, ◌++◌, take, drop, Option, ◌==◌, slice_index, refl}
+use Rattle.std.specs.Prelude.{◌≡◌, ℕ, cond, List, [], ◌∷◌, ◌++◌, take, drop, Option, ◌==◌, slice_index, refl}
 use Rattle.bodies.specs.declared.event.Event.{Event}
 use Rattle.bodies.specs.declared.event.EventKind.{EventKind}
 use Rattle.bodies.specs.declared.event.EventKind.TheVariants.{Begin, End}
-use Rattle.bodies.specs.declared.event.UnknownKind.{UnknownKind}
 use Rattle.bodies.specs.Numbers.{be32, worth, worth32}
 use Rattle.bodies.specs.Bodies.{BodyLaws, value_by, lawful_by}
 
 abbrev pub kind_byte : EventKind → ℕ
 kind_byte Begin = 1
 kind_byte End = 2
-
--- a byte is read as the kind that it stands for, and refused where it stands for none
-abbrev pub Decodes : ℕ → Result EventKind UnknownKind → Type 0
-Decodes byte r = MatchResult r (λ kind. kind_byte kind ≡ byte) (λ _. (kind : EventKind) → kind_byte kind ≢ byte)
 
 abbrev pub event_bytes : Event → List ℕ
 event_bytes e = be32 e.line ++ be32 e.stamp ++ kind_byte e.kind ∷ []

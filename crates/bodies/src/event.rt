@@ -1,7 +1,9 @@
 ghost use Rattle.std.specs.Prelude.{◌≡◌};
-ghost use Rattle.bodies.specs.Events.{event_bytes, event_value, event_laws, kind_byte, Decodes};
+ghost use Rattle.bodies.specs.Events.{event_bytes, event_value, event_laws, kind_byte};
+ghost use Rattle.bodies.specs.Codes.{Decodes};
 
 use super::body::{Body, WrongLength, put};
+use super::code::UnknownCode;
 use super::numbers::Number;
 
 #[derive(Clone, Copy, PartialEq, Debug)]
@@ -9,10 +11,6 @@ pub enum EventKind {
     Begin,
     End,
 }
-
-// A byte that stands for no kind.
-#[derive(Clone, Copy, PartialEq, Debug)]
-pub struct UnknownKind;
 
 impl From<EventKind> for u8 {
     ghost from_gives = { λ kind byte. byte ≡ kind_byte kind };
@@ -26,15 +24,15 @@ impl From<EventKind> for u8 {
 }
 
 impl TryFrom<u8> for EventKind {
-    type Error = UnknownKind;
+    type Error = UnknownCode;
 
-    ghost try_from_gives = { Decodes };
+    ghost try_from_gives = { Decodes kind_byte };
 
-    fn try_from(byte: u8) -> Result<EventKind, UnknownKind> {
+    fn try_from(byte: u8) -> Result<EventKind, UnknownCode> {
         match byte {
             1 => Ok(EventKind::Begin),
             2 => Ok(EventKind::End),
-            _ => Err(UnknownKind),
+            _ => Err(UnknownCode),
         }
     }
 }

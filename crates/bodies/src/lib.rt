@@ -4,6 +4,7 @@
 pub mod body;
 pub mod call;
 pub mod charge;
+pub mod code;
 pub mod event;
 pub mod numbers;
 pub mod weight;

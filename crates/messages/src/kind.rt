@@ -1,5 +1,8 @@
 ghost use Rattle.std.specs.Prelude.{◌≡◌};
-ghost use Rattle.messages.specs.Kinds.{kind_byte, Decodes};
+ghost use Rattle.bodies.specs.Codes.{Decodes};
+ghost use Rattle.messages.specs.Kinds.{kind_byte};
+
+use bodies::code::UnknownCode;
 
 // What a message says, as the first byte of its header.
 #[derive(Clone, Copy, PartialEq, Debug)]
@@ -11,10 +14,6 @@ pub enum Kind {
     Psync,
     Reverse,
 }
-
-// A byte that stands for no kind.
-#[derive(Clone, Copy, PartialEq, Debug)]
-pub struct UnknownKind;
 
 impl From<Kind> for u8 {
     ghost from_gives = { λ kind byte. byte ≡ kind_byte kind };
@@ -32,11 +31,11 @@ impl From<Kind> for u8 {
 }
 
 impl TryFrom<u8> for Kind {
-    type Error = UnknownKind;
+    type Error = UnknownCode;
 
-    ghost try_from_gives = { Decodes };
+    ghost try_from_gives = { Decodes kind_byte };
 
-    fn try_from(byte: u8) -> Result<Kind, UnknownKind> {
+    fn try_from(byte: u8) -> Result<Kind, UnknownCode> {
         match byte {
             1 => Ok(Kind::Record),
             2 => Ok(Kind::Result),
@@ -44,7 +43,7 @@ impl TryFrom<u8> for Kind {
             4 => Ok(Kind::Csync),
             5 => Ok(Kind::Psync),
             6 => Ok(Kind::Reverse),
-            _ => Err(UnknownKind),
+            _ => Err(UnknownCode),
         }
     }
 }

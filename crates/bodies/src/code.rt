@@ -1,0 +1,3 @@
+// A byte that stands for nothing.
+#[derive(Clone, Copy, PartialEq, Debug)]
+pub struct UnknownCode;
