@@ -5,7 +5,7 @@ use super::body::{Body, WrongLength, put};
 use super::numbers::{put32, put64, take32, take64};
 
 // A line's calls so far, and their seconds together.
-#[derive(Clone, Copy, PartialEq, Debug)]
+#[derive(Clone, Copy, PartialEq, Default, Debug)]
 pub struct Charge {
     pub line: u32,
     pub calls: u32,
