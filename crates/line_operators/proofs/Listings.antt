@@ -1,5 +1,5 @@
 -- Rows in bytes: one more written, one more read.
-use Rattle.std.proofs.Common.{◌≡◌, ℕ, suc, ◌+◌, ◌-◌, ◌*◌, ◌/◌, ◌%◌, ◌<◌, ◌≤◌, List, [], ◌∷◌, ◌++◌, length, get_or, take, drop, Ok, Err, Option, Result, sym, ap, ◌∙◌, append_assoc, mul-le-mul_right, suc-mul, inl, inr, arith, length-append, length-drop, length-take-le}
+use Rattle.std.proofs.Common.{◌≡◌, ℕ, suc, ◌+◌, ◌*◌, ◌/◌, ◌%◌, ◌<◌, ◌≤◌, List, [], ◌∷◌, ◌++◌, length, get_or, take, drop, Ok, Err, Option, Result, sym, ap, ◌∙◌, append_assoc, mul-le-mul_right, suc-mul, inl, inr, arith, length-append, length-take-le}
 use borrow.Rule.Slice.PartMut.{put_mid}
 use Rattle.std.proofs.lemmas.List.{take_at, drop_at, take_more, flat_map_more, append-nil, nil_from_length}
 use Rattle.std.proofs.lemmas.Nat.{mod-mul-add}

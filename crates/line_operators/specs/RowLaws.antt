@@ -1,5 +1,5 @@
 -- What keeps the rows in order, and that two tables never write the same bytes.
-use Rattle.std.specs.Prelude.{◌≡◌, ℕ, zero, suc, ◌+◌, ◌*◌, ◌<◌, ◌≤◌, Bool, true, false, cond, ◌&&◌, List, [], ◌∷◌, length, take, drop, Option, nat_le, slice_index, slice_index_or, refl}
+use Rattle.std.specs.Prelude.{◌≡◌, ℕ, suc, ◌+◌, ◌*◌, ◌≤◌, Bool, true, false, cond, ◌&&◌, List, [], ◌∷◌, length, take, drop, Option, nat_le, slice_index, refl}
 use Rattle.std.proofs.Common.{sym, ap, ◌∙◌, inl, inr, arith, suc-mul, length-append}
 use Rattle.std.proofs.lemmas.Bool.{le-leb, leb-true, and_parts, and_from, cases_order}
 use Rattle.std.proofs.lemmas.List.{take_at, drop_at}

@@ -1,4 +1,4 @@
-use Rattle.std.proofs.Common.{ap, sym, ◌∙◌, arith}
+use Rattle.std.proofs.Common.{ap, arith}
 use Rattle.std.proofs.lemmas.Bool.Decides.{nat_tests}
 use Rattle.line_operators.proofs.Spots.{put_known, put_new, put_dropped}
 use Rattle.line_operators.proofs.table.Table.put.Goals as goal

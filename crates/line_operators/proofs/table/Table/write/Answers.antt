@@ -1,4 +1,4 @@
-use Rattle.std.proofs.Common.{◌≡◌, ◌+◌, ◌-◌, ◌<◌, ◌≤◌, ◌++◌, length, take, drop, set, sym, ap, ◌∙◌, arith, rules, length-append, length-set}
+use Rattle.std.proofs.Common.{◌≡◌, ◌+◌, ◌-◌, ◌++◌, length, take, drop, set, sym, ap, ◌∙◌, arith, rules, length-append, length-set}
 use Rattle.std.specs.List.{flat_map}
 use Rattle.operators.proofs.Laying.{part_long}
 use Rattle.line_operators.proofs.Listings.{wrote_fits, wrote_more, joined_next, room}

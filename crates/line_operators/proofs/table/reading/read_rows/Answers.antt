@@ -23,7 +23,7 @@ returns-in_err-read g c =
     let read = sym (ap (λ l. flat_map g.E.Body.bytes ys ++ l) step.0) ∙ c.loop-chunk.invariant.read ∙ sym (ap (drop 1) w) in
     let long = step.1 ∙ c.loop-chunk.invariant.size in
     let x = next g.E.Body.laws ys xs c.in-Some.chunk.now _ long read (more g.E.Body.laws ys xs c.in-Some.chunk.now _ (omega arith) long read) in
-    cc (c.in_err-read.ensures, ap g.E.Body.value x.1, g.E.Body.laws.back x.0))
+    cc (c.in_err-read.ensures, x.1, g.E.Body.laws.back x.0))
 
 pub loop-chunk-preserved : goal.loop-chunk-preserved
 loop-chunk-preserved g c =
