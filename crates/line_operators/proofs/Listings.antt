@@ -45,12 +45,13 @@ module _ {E : Type 0} {size : ℕ} {bytes : E → List ℕ} {value : List ℕ �
       let are = sym (append-nil (flat_map bytes ys)) ∙ ap (λ l. flat_map bytes ys ++ l) (sym (nil_from_length rest none)) ∙ e in
       λ i. all i ∷ are i
 
-  pub read_more : (ys : List E) (x : E) (part rest from : List ℕ) → flat_map bytes ys ++ (part ++ rest) ≡ from → bytes x ≡ part → flat_map bytes (ys ++ x ∷ []) ++ rest ≡ from
-  read_more ys x part rest from e is =
-      ap (λ l. l ++ rest) (sym (flat_map_more bytes [] ys x)) ∙ append_assoc (flat_map bytes ys) (bytes x) rest ∙ ap (λ l. flat_map bytes ys ++ (l ++ rest)) is ∙ e
+  -- a row is read from the bytes that are left
+  pub read_more : (ys : List E) (x : E) (part rest later tail : List ℕ) → flat_map bytes ys ++ rest ≡ tail → rest ≡ part ++ later → bytes x ≡ part → flat_map bytes (ys ++ x ∷ []) ++ later ≡ tail
+  read_more ys x part rest later tail e cut is =
+      ap (λ l. l ++ later) (sym (flat_map_more bytes [] ys x)) ∙ append_assoc (flat_map bytes ys) (bytes x) later ∙ ap (λ l. flat_map bytes ys ++ (l ++ later)) is ∙ ap (λ l. flat_map bytes ys ++ l) (sym cut) ∙ e
 
   -- rows whose bytes begin with other rows' and a row's length more are more rows
-  pub more : (ys xs : List E) (part rest : List ℕ) → 1 ≤ size → length part ≡ size → flat_map bytes ys ++ (part ++ rest) ≡ flat_map bytes xs → length ys < length xs
+  more : (ys xs : List E) (part rest : List ℕ) → 1 ≤ size → length part ≡ size → flat_map bytes ys ++ (part ++ rest) ≡ flat_map bytes xs → length ys < length xs
   more ys xs part rest some long e =
       elim (cases_lt (length ys) (length xs)) [
         | inl less ↦ less
@@ -64,10 +65,17 @@ module _ {E : Type 0} {size : ℕ} {bytes : E → List ℕ} {value : List ℕ �
       ]
 
   -- and the next of them writes those bytes
-  pub next : (ys xs : List E) (part rest : List ℕ) → length part ≡ size → flat_map bytes ys ++ (part ++ rest) ≡ flat_map bytes xs → length ys < length xs → (x : E) × (bytes x ≡ part)
+  next : (ys xs : List E) (part rest : List ℕ) → length part ≡ size → flat_map bytes ys ++ (part ++ rest) ≡ flat_map bytes xs → length ys < length xs → (x : E) × (bytes x ≡ part)
   next ys [] part rest long e l = absurd (omega arith)
   next [] (x ∷ xs) part rest long e l = (x, sym (take_at (bytes x) (flat_map bytes xs) size (laws.long x)) ∙ ap (take size) (sym e) ∙ take_at part rest size long)
   next (y ∷ ys) (x ∷ xs) part rest long e l =
       next ys xs part rest long
       (sym (drop_at (bytes y) (flat_map bytes ys ++ (part ++ rest)) size (laws.long y)) ∙ ap (drop size) (sym (append_assoc (bytes y) (flat_map bytes ys) (part ++ rest)) ∙ e) ∙ drop_at (bytes x) (flat_map bytes xs) size (laws.long x))
       (omega arith)
+
+  -- where a row's length is left of rows' bytes, these are more than the rows read, and the next of them writes that part
+  pub next_row : (ys xs : List E) (part rest later tail : List ℕ) → 1 ≤ size → flat_map bytes ys ++ rest ≡ tail → rest ≡ part ++ later → length part ≡ size → flat_map bytes xs ≡ tail → record { less : length ys < length xs; row : (x : E) × (bytes x ≡ part) }
+  next_row ys xs part rest later tail some e cut long w =
+      let read = ap (λ l. flat_map bytes ys ++ l) (sym cut) ∙ e ∙ sym w in
+      let less = more ys xs part later some long read in
+      record { less = less; row = next ys xs part later long read less }

@@ -113,6 +113,7 @@ impl<E: Row, const N: usize> Table<E, N> {
         }
         let rows = self.rows.as_slice();
         out[0] = rows.len() as u8;
+        // `chunks_exact_mut` does not say which bytes it leaves, so the parts are cut by their places.
         let mut at = 1;
         for row in rows {
             // A part of just a row's size refuses no row.

@@ -3,7 +3,7 @@ use Rattle.std.proofs.lemmas.Grind.{common_steps}
 use Rattle.std.specs.List.{flat_map}
 use Rattle.std.specs.Slice.Iter.{chunks_exact_rest}
 use Rattle.line_operators.specs.RowLaws.{joined_long}
-use Rattle.line_operators.proofs.Listings.{all_read, read_more, more, next}
+use Rattle.line_operators.proofs.Listings.{all_read, read_more, next_row}
 use Rattle.line_operators.proofs.table.reading.read_rows.Goals as goal
 
 pub returns-then-tail-from : goal.returns-then-tail-from
@@ -19,20 +19,19 @@ pub returns-in_err-read : goal.returns-in_err-read
 returns-in_err-read g c =
     rw c.from_residual-in_err-read.ensures (λ xs few w.
     let step = c.in-Some.ensures.steps.1 in
-    let ys = c.loop-chunk.rows.items in
-    let read = sym (ap (λ l. flat_map g.E.Body.bytes ys ++ l) step.0) ∙ c.loop-chunk.invariant.read ∙ sym (ap (drop 1) w) in
-    let long = step.1 ∙ c.loop-chunk.invariant.size in
-    let x = next g.E.Body.laws ys xs c.in-Some.chunk.now _ long read (more g.E.Body.laws ys xs c.in-Some.chunk.now _ (omega arith) long read) in
-    cc (c.in_err-read.ensures, x.1, g.E.Body.laws.back x.0))
+    let read = c.loop-chunk.invariant in
+    let next = next_row g.E.Body.laws c.loop-chunk.rows.items xs c.in-Some.chunk.now _ _ _ (omega arith) read.read step.0 (step.1 ∙ read.size) (ap (drop 1) w) in
+    cc (c.in_err-read.ensures, next.row.1, g.E.Body.laws.back next.row.0))
 
 pub loop-chunk-preserved : goal.loop-chunk-preserved
 loop-chunk-preserved g c =
     let step = c.in-Some.ensures.steps in
-    let ys = c.loop-chunk.rows.items in
+    let read = c.loop-chunk.invariant in
     let row = c.in_ok-read.field-0 in
+    let spelled = g.E.Body.laws.only c.in-Some.chunk.now row (grind (arith, common_steps)) in
     record {
-      read = ap (λ zs. flat_map g.E.Body.bytes zs ++ chunks_exact_rest c.next.new.self) (grind (arith, common_steps)) ∙ read_more g.E.Body.laws ys row c.in-Some.chunk.now _ _ (sym (ap (λ l. flat_map g.E.Body.bytes ys ++ l) step.1.0) ∙ c.loop-chunk.invariant.read) (g.E.Body.laws.only c.in-Some.chunk.now row (grind (arith, common_steps)));
-      size = step.0 ∙ c.loop-chunk.invariant.size;
+      read = ap (λ zs. flat_map g.E.Body.bytes zs ++ chunks_exact_rest c.next.new.self) (grind (arith, common_steps)) ∙ read_more g.E.Body.laws c.loop-chunk.rows.items row c.in-Some.chunk.now _ _ _ read.read step.1.0 spelled;
+      size = step.0 ∙ read.size;
       few = grind (arith, common_steps);
     }
 
@@ -40,9 +39,9 @@ pub returns-in_err-ok : goal.returns-in_err-ok
 returns-in_err-ok g c =
     rw c.from_residual-in_err-ok.ensures (λ xs few w.
     let step = c.in-Some.ensures.steps.1 in
-    let ys = c.loop-chunk.rows.items in
-    let read = sym (ap (λ l. flat_map g.E.Body.bytes ys ++ l) step.0) ∙ c.loop-chunk.invariant.read ∙ sym (ap (drop 1) w) in
-    let less = more g.E.Body.laws ys xs c.in-Some.chunk.now _ (omega arith) (step.1 ∙ c.loop-chunk.invariant.size) read in
+    let read = c.loop-chunk.invariant in
+    let next = next_row g.E.Body.laws c.loop-chunk.rows.items xs c.in-Some.chunk.now _ _ _ (omega arith) read.read step.0 (step.1 ∙ read.size) (ap (drop 1) w) in
+    let less = next.less in
     grind (arith, common_steps))
 
 pub returns : goal.returns
