@@ -1,63 +1,104 @@
--- What the three operations do at a key's place.
-use Rattle.std.proofs.Common.{◌≡◌, ℕ, zero, suc, ◌<◌, ◌≤◌, Bool, true, false, List, [], ◌∷◌, length, get_or, take, set, Some, None, refl, ap, ◌∙◌, subst, arith, length-take-le, get_or-take}
-use Rattle.std.specs.List.{insert, remove}
-use Rattle.line_operators.specs.Rows.{found, with_row, without}
+-- What finding, putting in and taking out are at a key's place.
+use Rattle.std.proofs.Common.{◌≡◌, ℕ, zero, suc, ◌<◌, ◌≤◌, Bool, true, false, leb, List, [], ◌∷◌, length, get_or, set, Some, None, Ok, Err, Result, sym, refl, ap, ◌∙◌, length-set, arith}
+use Rattle.std.proofs.lemmas.Bool.{le-leb, lt-leb}
+use Rattle.std.proofs.lemmas.List.Edits.{length-insert}
+use Rattle.std.specs.List.{insert, remove, refill}
+use Rattle.std.specs.Result.{result_ok}
+use Rattle.arrayvec.proofs.ArrayVecLemmas.{items-with_items}
+use Rattle.line_operators.specs.Rows.{orderly, found, with_row, put_in, without}
+use Rattle.line_operators.specs.RowLaws.{with_orderly}
 use Rattle.line_operators.specs.RowSteps.{found_past, found_first, found_before, with_past, with_first, with_before, without_past, without_first, without_before}
-use Rattle.line_operators.specs.Places.{Here, Place}
+use Rattle.line_operators.specs.Places.{Place}
+use Rattle.line_operators.proofs.Finds.{put_fits, put_full}
 
 module _ {E : Type 0} (rank : E → ℕ) where
-  later : (k i : ℕ) (here : Bool) (x : E) (xs : List E) → Here rank k (suc i) here (x ∷ xs) → Here rank k i here xs
-  later k i true x xs h = λ d. let p = h d in (omega arith, p.1)
-  later k i false x xs h = λ d l. h d (omega arith)
+  -- at the place i of the row of rank k
+  pub record Known (k i : ℕ) (xs : List E) : Type 0 where
+    pub finds : (d : E) → found rank k xs ≡ Some (get_or xs i d)
+    pub puts : (e : E) → rank e ≡ k → with_row rank e xs ≡ set xs i e
+    pub takes : without rank k xs ≡ remove xs i
 
-  step : (k i : ℕ) (here : Bool) (x : E) (xs : List E) → Place rank k (suc i) here (x ∷ xs) → Place rank k i here xs
-  step k i here x xs p = record {
-    within = let w = p.within in omega arith;
-    before = λ j d h. p.before (suc j) d (omega arith);
-    next = later k i here x xs p.next;
+  pub known : (k i : ℕ) (xs : List E) → Place rank k xs (Ok i) → Known k i xs
+  known k i [] p = absurd (omega (arith, p.0))
+  known k zero (x ∷ xs) p = record {
+    finds = λ d. found_first rank k x xs (p.2 d);
+    puts = λ e is. with_first rank e x xs (omega (arith, p.2 e));
+    takes = without_first rank k x xs (p.2 x);
   }
+  known k (suc i) (x ∷ xs) p =
+      let below = p.1 0 x (omega arith) in
+      let later = known k i xs (omega (arith, p.0), λ j d lt. p.1 (suc j) d (omega arith), p.2) in
+      record {
+        finds = λ d. found_past rank k x xs below ∙ later.finds d;
+        puts = λ e is. with_past rank e x xs (omega arith) ∙ ap (λ l. x ∷ l) (later.puts e is);
+        takes = without_past rank k x xs below ∙ ap (λ l. x ∷ l) later.takes;
+      }
 
-  pub found_here : (k i : ℕ) (xs : List E) (d : E) → Place rank k i true xs → found rank k xs ≡ Some (get_or xs i d)
-  found_here k i [] d p = absurd (let n = p.next d in omega arith)
-  found_here k zero (x ∷ xs) d p = found_first rank k x xs (p.next d).1
-  found_here k (suc i) (x ∷ xs) d p = found_past rank k x xs (p.before 0 x (omega arith)) ∙ found_here k i xs d (step k i true x xs p)
+  -- at the place i where a row of rank k would stand
+  pub record New (k i : ℕ) (xs : List E) : Type 0 where
+    pub finds : found rank k xs ≡ None
+    pub puts : (e : E) → rank e ≡ k → with_row rank e xs ≡ insert xs i e
+    pub takes : without rank k xs ≡ xs
 
-  pub found_not : (k i : ℕ) (xs : List E) → Place rank k i false xs → found rank k xs ≡ None
-  found_not k i [] p = refl
-  found_not k zero (x ∷ xs) p = found_before rank k x xs (p.next x (omega arith))
-  found_not k (suc i) (x ∷ xs) p = found_past rank k x xs (p.before 0 x (omega arith)) ∙ found_not k i xs (step k i false x xs p)
+  pub new : (k i : ℕ) (xs : List E) → Place rank k xs (Err i) → New k i xs
+  new k zero [] p = record { finds = refl; puts = λ e is. refl; takes = refl }
+  new k (suc i) [] p = absurd (omega (arith, p.0))
+  new k zero (x ∷ xs) p =
+      let past = p.2 x (omega arith) in
+      record {
+        finds = found_before rank k x xs past;
+        puts = λ e is. with_before rank e x xs (omega arith);
+        takes = without_before rank k x xs past;
+      }
+  new k (suc i) (x ∷ xs) p =
+      let below = p.1 0 x (omega arith) in
+      let later = new k i xs (omega (arith, p.0), λ j d lt. p.1 (suc j) d (omega arith), λ d lt. p.2 d (omega arith)) in
+      record {
+        finds = found_past rank k x xs below ∙ later.finds;
+        puts = λ e is. with_past rank e x xs (omega arith) ∙ ap (λ l. x ∷ l) (later.puts e is);
+        takes = without_past rank k x xs below ∙ ap (λ l. x ∷ l) later.takes;
+      }
 
-  pub with_here : (e : E) (i : ℕ) (xs : List E) → Place rank (rank e) i true xs → with_row rank e xs ≡ set xs i e
-  with_here e i [] p = absurd (let n = p.next e in omega arith)
-  with_here e zero (x ∷ xs) p = with_first rank e x xs (p.next e).1
-  with_here e (suc i) (x ∷ xs) p = with_past rank e x xs (p.before 0 x (omega arith)) ∙ ap (λ l. x ∷ l) (with_here e i xs (step (rank e) i true x xs p))
+  -- the place that was answered, by its variant
+  pub at_some : (k i : ℕ) (xs : List E) (r : Result ℕ ℕ) → Place rank k xs r → result_ok r ≡ Some i → Known k i xs
+  at_some k i xs (Ok j) p e = let same : j ≡ i = cc in known k i xs (rw (sym same) p)
+  at_some k i xs (Err j) p e = absurd (cc)
 
-  pub with_new : (e : E) (i : ℕ) (xs : List E) → Place rank (rank e) i false xs → with_row rank e xs ≡ insert xs i e
-  with_new e zero [] p = refl
-  with_new e (suc i) [] p = absurd (let w = p.within in omega arith)
-  with_new e zero (x ∷ xs) p = with_before rank e x xs (p.next x (omega arith))
-  with_new e (suc i) (x ∷ xs) p = with_past rank e x xs (p.before 0 x (omega arith)) ∙ ap (λ l. x ∷ l) (with_new e i xs (step (rank e) i false x xs p))
+  pub at_none : (k : ℕ) (xs : List E) (r : Result ℕ ℕ) → Place rank k xs r → result_ok r ≡ None → found rank k xs ≡ None × without rank k xs ≡ xs
+  at_none k xs (Ok i) p e = absurd (cc)
+  at_none k xs (Err i) p e = let n = new k i xs p in (n.finds, n.takes)
 
-  pub without_here : (k i : ℕ) (xs : List E) (d : E) → Place rank k i true xs → without rank k xs ≡ remove xs i
-  without_here k i [] d p = absurd (let n = p.next d in omega arith)
-  without_here k zero (x ∷ xs) d p = without_first rank k x xs (p.next d).1
-  without_here k (suc i) (x ∷ xs) d p = without_past rank k x xs (p.before 0 x (omega arith)) ∙ ap (λ l. x ∷ l) (without_here k i xs d (step k i true x xs p))
+  module _ (sound : E → Bool) (most : ℕ) (e : E) (xs : List E) where
+    -- ys is what a table of so many rows has once a row is put in that has a place
+    pub record Put (ys : List E) : Type 0 where
+      pub after : ys ≡ put_in rank most e xs
+      pub fits : true ≡ leb (length (with_row rank e xs)) most
+      pub few : length ys ≤ most
+      pub ordered : orderly rank sound 0 ys ≡ true
 
-  pub without_not : (k i : ℕ) (xs : List E) → Place rank k i false xs → without rank k xs ≡ xs
-  without_not k i [] p = refl
-  without_not k zero (x ∷ xs) p = without_before rank k x xs (p.next x (omega arith))
-  without_not k (suc i) (x ∷ xs) p = without_past rank k x xs (p.before 0 x (omega arith)) ∙ ap (λ l. x ∷ l) (without_not k i xs (step k i false x xs p))
+    module _ (k i : ℕ) (key : k ≡ rank e) (fit : sound e ≡ true) (up : orderly rank sound 0 xs ≡ true) where
+      put : (ys : List E) → ys ≡ with_row rank e xs → length ys ≤ most → Put ys
+      put ys is few =
+          let fits : length (with_row rank e xs) ≤ most = omega (arith, ap length is) in
+          record {
+            after = is ∙ sym (put_fits rank most e xs fits);
+            fits = sym (le-leb (length (with_row rank e xs)) most fits);
+            few = few;
+            ordered = ap (orderly rank sound 0) is ∙ with_orderly rank sound 0 e xs fit (omega arith) up;
+          }
 
-  -- a place among the first n of some rows
-  pub placed : (k i n : ℕ) (here : Bool) (rows : List E) → n ≤ length rows → i ≤ n → ((j : ℕ) (d : E) → j < i → rank (get_or rows j d) < k) → Here rank k i here (take n rows) → Place rank k i here (take n rows)
-  placed k i n here rows fits le before next = record {
-    within = let l = length-take-le n rows fits in omega arith;
-    before = λ j d h. let e = ap rank (get_or-take n rows j d (omega arith)) in let b = before j d h in omega arith;
-    next = next;
-  }
+      -- over the row of its rank, as a write through the slice leaves the rows
+      pub put_known : (zs : List E) → zs ≡ xs → length xs ≤ most → Place rank k xs (Ok i) → Put (refill (length xs) xs (set zs i e))
+      put_known zs same few p =
+          let is = items-with_items (record { items = xs }) (set zs i e) (length-set zs i e ∙ ap length same) ∙ ap (λ l. set l i e) same in
+          put (refill (length xs) xs (set zs i e)) (is ∙ sym ((known k i xs p).puts e (sym key))) (omega (arith, ap length is, length-set xs i e))
 
-  pub moved : (k l i : ℕ) (b here : Bool) (xs : List E) → k ≡ l → b ≡ here → Place rank k i b xs → Place rank l i here xs
-  moved k l i b here xs e h p =
-      let P : ℕ → Type 0 = λ n. Place rank n i here xs in
-      let Q : Bool → Type 0 = λ t. Place rank k i t xs in
-      subst P e (subst Q h p)
+      -- or at its place
+      pub put_new : (ys : List E) → ys ≡ insert xs i e → length xs < most → Place rank k xs (Err i) → Put ys
+      put_new ys is few p = put ys (is ∙ sym ((new k i xs p).puts e (sym key))) (omega (arith, ap length is, length-insert xs i e p.0))
+
+  -- a new row that has no place is dropped
+  pub put_dropped : (most : ℕ) (e : E) (xs : List E) (k i : ℕ) → k ≡ rank e → most ≤ length xs → Place rank k xs (Err i) → record { after : xs ≡ put_in rank most e xs; fits : false ≡ leb (length (with_row rank e xs)) most }
+  put_dropped most e xs k i key full p =
+      let long : most < length (with_row rank e xs) = omega (arith, ap length ((new k i xs p).puts e (sym key)), length-insert xs i e p.0) in
+      record { after = sym (put_full rank most e xs long); fits = sym (lt-leb (length (with_row rank e xs)) most long) }

@@ -1,5 +1,5 @@
 -- What keeps the rows in order, and that two tables never write the same bytes.
-use Rattle.std.specs.Prelude.{◌≡◌, ℕ, zero, suc, ◌+◌, ◌*◌, ◌<◌, ◌≤◌, Bool, true, false, cond, ◌&&◌, List, [], ◌∷◌, length, take, drop, Option, nat_le, slice_index, slice_index_or, refl}
+use Rattle.std.specs.Prelude.{◌≡◌, ℕ, suc, ◌+◌, ◌*◌, ◌≤◌, Bool, true, false, cond, ◌&&◌, List, [], ◌∷◌, length, take, drop, Option, nat_le, slice_index, refl}
 use Rattle.std.proofs.Common.{sym, ap, ◌∙◌, inl, inr, arith, suc-mul, length-append}
 use Rattle.std.proofs.lemmas.Bool.{le-leb, leb-true, and_parts, and_from, cases_order}
 use Rattle.std.proofs.lemmas.List.{take_at, drop_at}
@@ -70,27 +70,6 @@ module _ {E : Type 0} (rank : E → ℕ) (sound : E → Bool) where
           | inr above ↦ ap (orderly rank sound n) (without_before rank k x xs above) ∙ h
         ]
       ]
-
-  -- neighbours in an orderly list, and each row
-  pub orderly_next : (n j : ℕ) (xs : List E) (d : E) → orderly rank sound n xs ≡ true → suc j < length xs → rank (slice_index_or xs j d) < rank (slice_index_or xs (suc j) d)
-  orderly_next n j [] d h l = absurd (omega arith)
-  orderly_next n j (x ∷ []) d h l = absurd (omega arith)
-  orderly_next n zero (x ∷ (y ∷ xs)) d h l = (parts (suc (rank x)) y xs (parts n x (y ∷ xs) h).others).least
-  orderly_next n (suc j) (x ∷ (y ∷ xs)) d h l = orderly_next (suc (rank x)) j (y ∷ xs) d (parts n x (y ∷ xs) h).others (omega arith)
-
-  pub orderly_sound : (n j : ℕ) (xs : List E) (d : E) → orderly rank sound n xs ≡ true → j < length xs → sound (slice_index_or xs j d) ≡ true
-  orderly_sound n j [] d h l = absurd (omega arith)
-  orderly_sound n zero (x ∷ xs) d h l = (parts n x xs h).fit
-  orderly_sound n (suc j) (x ∷ xs) d h l = orderly_sound (suc (rank x)) j xs d (parts n x xs h).others (omega arith)
-
-  pub orderly_from : (n : ℕ) (xs : List E) → ((d : E) → 0 < length xs → n ≤ rank (slice_index_or xs 0 d)) → ((j : ℕ) (d : E) → j < length xs → sound (slice_index_or xs j d) ≡ true) → ((j : ℕ) (d : E) → suc j < length xs → rank (slice_index_or xs j d) < rank (slice_index_or xs (suc j) d)) → orderly rank sound n xs ≡ true
-  orderly_from n [] f s h = refl
-  orderly_from n (x ∷ xs) f s h =
-      from_parts n x xs (record {
-        fit = s 0 x (omega arith);
-        least = f x (omega arith);
-        others = orderly_from (suc (rank x)) xs (λ d l. h 0 d (omega arith)) (λ j d l. s (suc j) d (omega arith)) (λ j d l. h (suc j) d (omega arith));
-      })
 
 module _ {E : Type 0} (rank : E → ℕ) where
   pub without_short : (k : ℕ) (xs : List E) → length (without rank k xs) ≤ length xs

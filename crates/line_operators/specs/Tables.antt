@@ -1,6 +1,6 @@
 -- A table's state: orderly rows, at most so many.
-use Rattle.std.specs.Prelude.{◌≡◌, ℕ, ◌+◌, ◌*◌, ◌≤◌, Bool, true, false, cond, ◌&&◌, T, List, length, take, Option, nat_le, refl}
-use Rattle.std.proofs.Common.{sym, subst, arith, mul-le-mul_right, length-take-le}
+use Rattle.std.specs.Prelude.{◌≡◌, ℕ, ◌+◌, ◌*◌, ◌≤◌, Bool, true, false, cond, ◌&&◌, T, List, length, Option, nat_le, refl}
+use Rattle.std.proofs.Common.{sym, subst, arith, mul-le-mul_right}
 use mathlib.Core.HLevel.{Σ_prop_path}
 use Rattle.std.proofs.Math.Dec.{T_prop}
 use Rattle.std.proofs.lemmas.Bool.{le-leb, leb-true, and_parts, and_from}
@@ -45,10 +45,9 @@ module _ {E : Type 0} (rank : E → ℕ) (sound : E → Bool) (most : ℕ) where
   without_fair k xs f =
       fair_from (without rank k xs) (let a = without_short rank k xs in let b = fair_few xs f in omega arith) (without_orderly rank sound 0 k xs (fair_orderly xs f))
 
-  -- the table of the first rows of an array
-  abbrev pub table_of : (rows : List E) (count : ℕ) → length rows ≡ most → count ≤ most → orderly rank sound 0 (take count rows) ≡ true → Table
-  table_of rows count long few up =
-      (take count rows, fair_from (take count rows) (let l = length-take-le count rows (omega arith) in omega arith) up)
+  -- the table of a list's rows
+  abbrev pub table_of : (xs : List E) → length xs ≤ most → orderly rank sound 0 xs ≡ true → Table
+  table_of xs few up = (xs, fair_from xs few up)
 
   module _ {size : ℕ} {bytes : E → List ℕ} {value : List ℕ → Option E} (laws : BodyLaws size bytes value) where
     pub table_apart : (s t : Table) → listing bytes s.0 ≡ listing bytes t.0 → s ≡ t

@@ -1,4 +1,4 @@
-ghost use Rattle.std.specs.Prelude.{◌≡◌};
+ghost use Rattle.std.specs.Prelude.{◌≡◌, refl};
 ghost use Rattle.line_operators.specs.Totals.{charge_line, billed};
 
 use super::table::Row;
@@ -11,14 +11,12 @@ impl Row for Charge {
 
     ghost rank = { λ k. k };
 
+    ghost ranked = { λ a b. refl };
+
     ghost sound = { billed };
 
     fn key(&self) -> u32 {
         self.line
-    }
-
-    fn below(a: u32, b: u32) -> bool {
-        a < b
     }
 
     fn sound(&self) -> bool {

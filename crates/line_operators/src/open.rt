@@ -1,4 +1,4 @@
-ghost use Rattle.std.specs.Prelude.{◌≡◌, true};
+ghost use Rattle.std.specs.Prelude.{◌≡◌, true, refl};
 ghost use Rattle.line_operators.specs.Opens.{open_bytes, open_value, open_laws};
 
 use super::table::Row;
@@ -6,7 +6,7 @@ use bodies::body::{Body, WrongLength, put};
 use bodies::numbers::Number;
 
 // A line whose call has begun.
-#[derive(Clone, Copy, PartialEq, Debug)]
+#[derive(Clone, Copy, PartialEq, Default, Debug)]
 pub struct Open {
     pub line: u32,
     pub stamp: u32,
@@ -43,14 +43,12 @@ impl Row for Open {
 
     ghost rank = { λ k. k };
 
+    ghost ranked = { λ a b. refl };
+
     ghost sound = { λ o. true };
 
     fn key(&self) -> u32 {
         self.line
-    }
-
-    fn below(a: u32, b: u32) -> bool {
-        a < b
     }
 
     fn sound(&self) -> bool {

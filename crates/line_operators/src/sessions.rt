@@ -1,12 +1,11 @@
-ghost use Rattle.std.specs.Prelude.{◌≡◌, ◌≤◌, true, length, take};
+ghost use Rattle.std.specs.Prelude.{◌≡◌, true};
 ghost use Rattle.operators.specs.Operators.{listed};
-ghost use Rattle.line_operators.specs.Rows.{orderly, found, put_in, without};
+ghost use Rattle.line_operators.specs.Rows.{found, put_in, without};
 ghost use Rattle.line_operators.specs.Tables.{table_of};
 ghost use Rattle.line_operators.specs.Sessions.{Opens, open_line, any_open, call_of, seconds_between, SecondsShown, none_open, sessions_next, sessions_gives, sessions_written, sessions_laws};
 
 use super::open::Open;
-use super::table::change::{put, remove};
-use super::table::listing::{read_rows, rows_length, write_rows};
+use super::table::Table;
 use bodies::call::Call;
 use bodies::event::{Event, EventKind};
 use operators::operator::Operator;
@@ -14,15 +13,8 @@ use operators::operator::Operator;
 // Turns events into calls, by the begins of at most 32 open lines.
 #[derive(Drop)]
 pub struct Sessions {
-    rows: [Open; 32],
-    count: usize,
-    ghost long: { length rows ≡ 32 },
-    ghost few: { count ≤ 32 },
-    ghost ordered: { orderly open_line any_open 0 (take count rows) ≡ true },
+    table: Table<Open, 32>,
 }
-
-// What stands in the places past the open lines; it has no meaning.
-const UNUSED: Open = Open { line: 0, stamp: 0 };
 
 // The seconds from a begin to an end, on a clock that starts again at 4,294,967,296.
 pub fn seconds_between(begin: u32, end: u32) -> u32
@@ -34,18 +26,17 @@ pub fn seconds_between(begin: u32, end: u32) -> u32
 
 impl Sessions {
     fn begin(&mut self, line: u32, stamp: u32)
-        ensures { take self.new.count self.new.rows ≡ put_in open_line 32 (record { line = line; stamp = stamp }) (take self.old.count self.old.rows) }
+        ensures { self.new.table.rows.items ≡ put_in open_line 32 (record { line = line; stamp = stamp }) self.old.table.rows.items }
     {
-        let _ = put(&mut self.rows, &mut self.count, Open { line, stamp });
+        // A new line is dropped where every place is taken.
+        let _ = self.table.put(Open { line, stamp });
     }
 
     fn end(&mut self, line: u32, stamp: u32) -> Option<Call>
-        ensures after { take self.new.count self.new.rows ≡ without open_line line (take self.old.count self.old.rows) }
-        ensures given { listed result ≡ call_of line stamp (found open_line line (take self.old.count self.old.rows)) }
+        ensures after { self.new.table.rows.items ≡ without open_line line self.old.table.rows.items }
+        ensures given { listed result ≡ call_of line stamp (found open_line line self.old.table.rows.items) }
     {
-        let Some(open) = remove(&mut self.rows, &mut self.count, line) else {
-            return None;
-        };
+        let open = self.table.remove(line)?;
         Some(Call {
             line,
             seconds: seconds_between(open.stamp, stamp),
@@ -60,7 +51,7 @@ impl Operator for Sessions {
 
     ghost State = { Opens };
 
-    ghost state = { λ s. table_of open_line any_open 32 s.rows s.count s.long s.few s.ordered };
+    ghost state = { λ s. table_of open_line any_open 32 s.table.rows.items s.table.few s.table.ordered };
 
     ghost first = { none_open };
 
@@ -80,8 +71,7 @@ impl Operator for Sessions {
 
     fn start() -> Sessions {
         Sessions {
-            rows: [UNUSED; 32],
-            count: 0,
+            table: Table::new(),
         }
     }
 
@@ -96,16 +86,15 @@ impl Operator for Sessions {
     }
 
     fn state_length(&self) -> usize {
-        rows_length(&self.rows, self.count)
+        self.table.length()
     }
 
     fn write_state(&self, out: &mut [u8]) -> Option<usize> {
-        write_rows(&self.rows, self.count, out)
+        self.table.write(out)
     }
 
     fn read_state(from: &[u8]) -> Option<Sessions> {
-        let mut rows = [UNUSED; 32];
-        let count = read_rows(from, &mut rows)?;
-        Some(Sessions { rows, count })
+        let table = Table::read(from)?;
+        Some(Sessions { table })
     }
 }

@@ -1,11 +1,8 @@
-ghost use Rattle.std.specs.Prelude.{◌≡◌, ◌≤◌, true, length, take};
-ghost use Rattle.line_operators.specs.Rows.{orderly};
+ghost use Rattle.std.specs.Prelude.{◌≡◌, true};
 ghost use Rattle.line_operators.specs.Tables.{table_of};
 ghost use Rattle.line_operators.specs.Totals.{Charges, charge_line, billed, raised, none_charged, totals_next, totals_gives, totals_written, totals_laws};
 
-use super::table::change::put;
-use super::table::listing::{read_rows, rows_length, write_rows};
-use super::table::place::find;
+use super::table::Table;
 use bodies::call::Call;
 use bodies::charge::Charge;
 use operators::operator::Operator;
@@ -13,28 +10,14 @@ use operators::operator::Operator;
 // Turns calls into charges, by the charges so far of at most 64 lines.
 #[derive(Drop)]
 pub struct Totals {
-    rows: [Charge; 64],
-    count: usize,
-    ghost long: { length rows ≡ 64 },
-    ghost few: { count ≤ 64 },
-    ghost ordered: { orderly charge_line billed 0 (take count rows) ≡ true },
+    table: Table<Charge, 64>,
 }
-
-// What stands in the places past the charges; it has no meaning.
-const UNUSED: Charge = Charge {
-    line: 0,
-    calls: 0,
-    seconds: 0,
-};
 
 // A line's charge with a call more.
 fn raise(charge: Option<Charge>, call: Call) -> Charge
     ensures { result ≡ raised charge call.line call.seconds }
 {
-    let (calls, seconds) = match charge {
-        Some(charge) => (charge.calls, charge.seconds),
-        None => (0, 0),
-    };
+    let Charge { calls, seconds, .. } = charge.unwrap_or_default();
     Charge {
         line: call.line,
         calls: calls.saturating_add(1),
@@ -49,7 +32,7 @@ impl Operator for Totals {
 
     ghost State = { Charges };
 
-    ghost state = { λ s. table_of charge_line billed 64 s.rows s.count s.long s.few s.ordered };
+    ghost state = { λ s. table_of charge_line billed 64 s.table.rows.items s.table.few s.table.ordered };
 
     ghost first = { none_charged };
 
@@ -69,27 +52,26 @@ impl Operator for Totals {
 
     fn start() -> Totals {
         Totals {
-            rows: [UNUSED; 64],
-            count: 0,
+            table: Table::new(),
         }
     }
 
     fn take(&mut self, value: Call) -> Option<Charge> {
-        let charge = raise(find(&self.rows, self.count, value.line), value);
-        put(&mut self.rows, &mut self.count, charge).then_some(charge)
+        let charge = raise(self.table.find(value.line), value);
+        self.table.put(charge).ok()?;
+        Some(charge)
     }
 
     fn state_length(&self) -> usize {
-        rows_length(&self.rows, self.count)
+        self.table.length()
     }
 
     fn write_state(&self, out: &mut [u8]) -> Option<usize> {
-        write_rows(&self.rows, self.count, out)
+        self.table.write(out)
     }
 
     fn read_state(from: &[u8]) -> Option<Totals> {
-        let mut rows = [UNUSED; 64];
-        let count = read_rows(from, &mut rows)?;
-        Some(Totals { rows, count })
+        let table = Table::read(from)?;
+        Some(Totals { table })
     }
 }
