@@ -10,7 +10,7 @@ use Rattle.messages.specs.Messages.{Content, Short, body_of, weight_of, message_
 use Rattle.numbered.proofs.Rings.{ring_length, ring_at, ring_drop, ring_push, ring_wrap}
 use Rattle.links.specs.declared.slot_link.SlotLink.{SlotLink}
 use Rattle.links.specs.Links.{weigh_all, offer_answer, offered, first_of, rest_of}
-use Rattle.links.specs.Slots.{slot_bytes, slots_of, in_slots, slotted, is_filled, all_filled}
+use Rattle.links.specs.Slots.{padded_bytes, slots_of, in_slots, slotted, is_filled, all_filled}
 use Rattle.links.specs.Spelling.{weigh_least}
 use Rattle.links.proofs.Offers.{admitted, answered, weigh_push}
 use Rattle.links.proofs.Writing.{as_many}
@@ -23,10 +23,10 @@ pub count_light : (t : List ℕ) (first count : ℕ) → 8 * count ≤ weigh_all
 count_light t first count = let l = in_slots_length t first count in let w = weigh_least (slotted t first count) in omega arith
 
 -- a message's slot is filled
-filled_by : (m : Content) → Short m → is_filled (slot_bytes m) ≡ true
+filled_by : (m : Content) → Short m → is_filled (padded_bytes m) ≡ true
 filled_by m short =
-    let P : Content → Type 0 = λ n. (leb (length (body_of n)) longest_body && same (slot_bytes n) (slot_bytes m)) ≡ true in
-    subst P (sym (first_back m _)) (and_from _ _ (le-leb _ _ short) (same_self (slot_bytes m)))
+    let P : Content → Type 0 = λ n. (leb (length (body_of n)) longest_body && same (padded_bytes n) (padded_bytes m)) ≡ true in
+    subst P (sym (first_back m _)) (and_from _ _ (le-leb _ _ short) (same_self (padded_bytes m)))
 
 filled_push : (slots : List (List ℕ)) (xs : List ℕ) → all_filled slots ≡ true → is_filled xs ≡ true → all_filled (slots ++ xs ∷ []) ≡ true
 filled_push [] xs e f = and_from _ _ f refl
@@ -37,18 +37,18 @@ pub record Holds (slots : List (List ℕ)) (ms : List Content) : Type 0 where
   pub are : in_slots slots ≡ ms
   pub filled : all_filled slots ≡ true
 
-slot_long : (m : Content) → Short m → length (slot_bytes m) ≡ 48
+slot_long : (m : Content) → Short m → length (padded_bytes m) ≡ 48
 slot_long m short = simp (length-append, length-replicate) (omega arith)
 
 -- a message written into the slot behind the others
-holds_push : (t ys : List ℕ) (m : Content) (at k first count : ℕ) → at ≡ (first + count) % 64 * 48 → k ≡ 48 → ys ≡ slot_bytes m → length t ≡ 3072 → count < 64 → all_filled (slots_of t first count) ≡ true → Short m →
+holds_push : (t ys : List ℕ) (m : Content) (at k first count : ℕ) → at ≡ (first + count) % 64 * 48 → k ≡ 48 → ys ≡ padded_bytes m → length t ≡ 3072 → count < 64 → all_filled (slots_of t first count) ≡ true → Short m →
     Holds (slots_of (put_mid at k t ys) first (count + 1)) (slotted t first count ++ m ∷ [])
 holds_push t ys m at k first count e f y long few filled short =
     let slots = slots_of t first count in
     let pushed = ring_push 64 48 t ys at k first count e f (ap length y ∙ slot_long m short) (omega arith) few ∙ ap (λ xs. slots ++ (xs ∷ [])) y in
     record {
-      are = ap in_slots pushed ∙ map-append first_message slots (slot_bytes m ∷ []) ∙ ap (λ n. in_slots slots ++ n ∷ []) (first_back m _);
-      filled = ap all_filled pushed ∙ filled_push slots (slot_bytes m) filled (filled_by m short);
+      are = ap in_slots pushed ∙ map-append first_message slots (padded_bytes m ∷ []) ∙ ap (λ n. in_slots slots ++ n ∷ []) (first_back m _);
+      filled = ap all_filled pushed ∙ filled_push slots (padded_bytes m) filled (filled_by m short);
     }
 
 filled_rest : (slots : List (List ℕ)) → all_filled slots ≡ true → Holds (drop 1 slots) (rest_of (in_slots slots))
@@ -77,8 +77,8 @@ first_in m more (xs ∷ slots) some e = ap Some (sym (first_back m more) ∙ ap 
 pub one_in : (slots : List (List ℕ)) → 0 < length slots → all_filled slots ≡ true → ((m : Content) (more : List ℕ) → Short m → message_bytes m ++ more ≡ get_or slots 0 [] → ⊥) → ⊥
 one_in [] some e none = omega arith
 one_in (xs ∷ slots) some e none =
-    let p = and_parts (leb (length (body_of (first_message xs))) longest_body) (same (slot_bytes (first_message xs)) xs) (and_parts (is_filled xs) (all_filled slots) e).0 in
-    none (first_message xs) _ (leb-true _ _ p.0) (same_true (slot_bytes (first_message xs)) xs p.1)
+    let p = and_parts (leb (length (body_of (first_message xs))) longest_body) (same (padded_bytes (first_message xs)) xs) (and_parts (is_filled xs) (all_filled slots) e).0 in
+    none (first_message xs) _ (leb-true _ _ p.0) (same_true (padded_bytes (first_message xs)) xs p.1)
 
 -- a slot link with a message in the slot behind the others
 pub record Pushed (l : SlotLink) (m : Content) (t : List ℕ) : Type 0 where
@@ -89,7 +89,7 @@ pub record Pushed (l : SlotLink) (m : Content) (t : List ℕ) : Type 0 where
   pub answer : Ok (tt {0}) ≡ offer_answer 512 (weigh_all (slotted l.table l.first l.count)) m
   pub after : slotted t l.first (l.count + 1) ≡ offered 512 m (slotted l.table l.first l.count)
 
-pub pushed : (l : SlotLink) (m : Content) (ys : List ℕ) (at k : ℕ) → at ≡ (l.first + l.count) % 64 * 48 → k ≡ 48 → ys ≡ slot_bytes m → Ok (tt {0}) ≡ offer_answer 512 l.weight m → Pushed l m (put_mid at k l.table ys)
+pub pushed : (l : SlotLink) (m : Content) (ys : List ℕ) (at k : ℕ) → at ≡ (l.first + l.count) % 64 * 48 → k ≡ 48 → ys ≡ padded_bytes m → Ok (tt {0}) ≡ offer_answer 512 l.weight m → Pushed l m (put_mid at k l.table ys)
 pushed l m ys at k e f y taken =
     let ms = slotted l.table l.first l.count in
     let a = admitted 512 l.weight m taken in

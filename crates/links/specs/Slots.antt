@@ -7,9 +7,9 @@ use Rattle.messages.specs.Messages.{Content, body_of, message_bytes, first_messa
 use Rattle.numbered.specs.Rings.{ring}
 use Rattle.links.specs.Links.{all_short}
 
--- a message's slot: its bytes, and zeros up to the longest message
-abbrev pub slot_bytes : Content → List ℕ
-slot_bytes m = message_bytes m ++ replicate (longest_body - length (body_of m)) 0
+-- a message's bytes, and zeros up to the longest message's length
+abbrev pub padded_bytes : Content → List ℕ
+padded_bytes m = message_bytes m ++ replicate (longest_body - length (body_of m)) 0
 
 -- of 64 slots of 48 bytes, so many from the first on
 abbrev pub slots_of : List ℕ → ℕ → ℕ → List (List ℕ)
@@ -24,7 +24,7 @@ slotted table first count = in_slots (slots_of table first count)
 
 -- whether a slot is that of a message whose body has at most forty bytes
 abbrev pub is_filled : List ℕ → Bool
-is_filled xs = nat_le (length (body_of (first_message xs))) longest_body && same (slot_bytes (first_message xs)) xs
+is_filled xs = nat_le (length (body_of (first_message xs))) longest_body && same (padded_bytes (first_message xs)) xs
 
 abbrev pub all_filled : List (List ℕ) → Bool
 all_filled [] = true

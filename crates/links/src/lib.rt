@@ -3,5 +3,5 @@
 
 pub mod link;
 pub mod packed_link;
-mod packing;
+mod padded;
 pub mod slot_link;

@@ -1,16 +1,13 @@
 ghost use Rattle.std.specs.Prelude.{◌≡◌, ◌<◌, ◌≤◌, true, [], length};
 ghost use Rattle.std.proofs.Common.{lit≤};
-ghost use Rattle.messages.specs.Messages.{Short, content_of};
 ghost use Rattle.links.specs.Links.{weigh_all};
-ghost use Rattle.links.specs.Slots.{slot_bytes, slots_of, slotted, all_filled, in_slots_short};
+ghost use Rattle.links.specs.Slots.{slots_of, slotted, all_filled, in_slots_short};
 
 use super::link::{Empty, Link, Untaken, admit};
-use bodies::weight::HEADER_LENGTH;
-use messages::message::{LONGEST_BODY, Message};
+use super::padded::{LONGEST_MESSAGE, padded};
+use messages::message::Message;
 
 const SLOTS: usize = 64;
-
-const SLOT_LENGTH: usize = HEADER_LENGTH + LONGEST_BODY;
 
 // 64 messages weigh no less, so a link that has space has a slot.
 const LIMIT: usize = 512;
@@ -19,7 +16,7 @@ const LIMIT: usize = 512;
 // behind the last.
 #[derive(Drop)]
 pub struct SlotLink {
-    table: [u8; SLOTS * SLOT_LENGTH],
+    table: [u8; SLOTS * LONGEST_MESSAGE],
     first: usize,
     count: usize,
     weight: usize,
@@ -30,24 +27,13 @@ pub struct SlotLink {
     ghost light: { weigh_all (slotted table first count) ≤ 512 },
 }
 
-// A short message's slot.
-fn slot(message: Message<'_>) -> [u8; SLOT_LENGTH]
-    requires { Short (content_of message) }
-    ensures { result ≡ slot_bytes (content_of message.entry) }
-{
-    let mut bytes = [0; SLOT_LENGTH];
-    // A part of just the message's weight refuses no short message.
-    let _ = message.write(&mut bytes[0..message.weight()]);
-    bytes
-}
-
 impl SlotLink {
     // A link on which nothing waits.
     pub fn new() -> SlotLink
         ensures { slotted result.table result.first result.count ≡ [] }
     {
         SlotLink {
-            table: [0; SLOTS * SLOT_LENGTH],
+            table: [0; SLOTS * LONGEST_MESSAGE],
             first: 0,
             count: 0,
             weight: 0,
@@ -68,8 +54,8 @@ impl Link for SlotLink {
 
     fn offer(&mut self, message: Message<'_>) -> Result<(), Untaken> {
         admit(&message, self.weight, LIMIT)?;
-        let at = (self.first + self.count) % SLOTS * SLOT_LENGTH;
-        self.table[at..at + SLOT_LENGTH].copy_from_slice(&slot(message));
+        let at = (self.first + self.count) % SLOTS * LONGEST_MESSAGE;
+        self.table[at..at + LONGEST_MESSAGE].copy_from_slice(&padded(&message));
         self.count += 1;
         self.weight += message.weight();
         Ok(())
@@ -79,8 +65,8 @@ impl Link for SlotLink {
         if self.count == 0 {
             return None;
         }
-        let at = self.first * SLOT_LENGTH;
-        let (message, _) = Message::split_first(&self.table[at..at + SLOT_LENGTH])?;
+        let at = self.first * LONGEST_MESSAGE;
+        let (message, _) = Message::split_first(&self.table[at..at + LONGEST_MESSAGE])?;
         Some(message)
     }
 

@@ -12,7 +12,7 @@ overflow_add-self c = let l = c.args.self.now in let n = count_light l.table l.f
 pub invariant_of-self : goal.invariant_of-self
 invariant_of-self c =
     let l = c.args.self.now in
-    let p = pushed l (content_of c.args.message) c.copy_from_slice.new.self _ _ refl (omega arith) (c.copy_from_slice.ensures.after ∙ c.slot.ensures) c.in_ok-admit.ensures in
+    let p = pushed l (content_of c.args.message) c.copy_from_slice.new.self _ _ refl (omega arith) (c.copy_from_slice.ensures.after ∙ c.padded.ensures) c.in_ok-admit.ensures in
     record {
       long = p.long;
       within = l.within;
@@ -23,5 +23,5 @@ invariant_of-self c =
 
 pub returns : goal.returns
 returns c =
-    let p = pushed c.args.self.now (content_of c.args.message) c.copy_from_slice.new.self _ _ refl (omega arith) (c.copy_from_slice.ensures.after ∙ c.slot.ensures) c.in_ok-admit.ensures in
+    let p = pushed c.args.self.now (content_of c.args.message) c.copy_from_slice.new.self _ _ refl (omega arith) (c.copy_from_slice.ensures.after ∙ c.padded.ensures) c.in_ok-admit.ensures in
     record { answer = p.answer; after = p.after; kept = refl }
