@@ -1,6 +1,6 @@
 -- A short message written over a part of lent bytes that has its weight.
-use Rattle.std.proofs.Common.{◌≡◌, ℕ, ◌+◌, ◌≤◌, List, length, Ok, Err, Result as Answer, arith, length-append, length-drop, length-take}
-use borrow.Rule.Slice.PartMut.{put_mid, mid_of}
+use Rattle.std.proofs.Common.{◌≡◌, ℕ, ◌+◌, ◌≤◌, List, length, Ok, Err, Result as Answer, arith, length-drop, length-take}
+use borrow.Rule.Slice.PartMut.{mid_of}
 use Rattle.messages.specs.declared.message.Unwritten.{Unwritten}
 use Rattle.messages.specs.declared.message.Unwritten.TheVariants.{LongBody, WrongLength}
 use Rattle.messages.specs.Messages.{Content, Short, MessageWrote, message_bytes, weight_of}
@@ -13,7 +13,3 @@ wrote m old new (Err WrongLength) short fits w = absurd (w.1 fits)
 
 pub wrote_part : (m : Content) (xs new : List ℕ) (at k : ℕ) (r : Answer (Unit {0}) Unwritten) → Short m → k ≡ weight_of m → at + k ≤ length xs → MessageWrote m (mid_of at k xs) new r → new ≡ message_bytes m
 wrote_part m xs new at k r short e fits = wrote m (mid_of at k xs) new r short (simp (length-take, length-drop) (omega arith))
-
--- a part written over leaves as many bytes
-pub as_many : (xs ys : List ℕ) (at k : ℕ) → length ys ≡ k → at + k ≤ length xs → length (put_mid at k xs ys) ≡ length xs
-as_many xs ys at k e h = simp (length-append, length-take, length-drop) (omega arith)

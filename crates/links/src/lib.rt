@@ -4,4 +4,5 @@
 pub mod link;
 pub mod packed_link;
 mod padded;
+mod ring;
 pub mod slot_link;

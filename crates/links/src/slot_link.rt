@@ -1,10 +1,11 @@
-ghost use Rattle.std.specs.Prelude.{◌≡◌, ◌<◌, ◌≤◌, true, [], length};
+ghost use Rattle.std.specs.Prelude.{◌≡◌, ◌≤◌, true, []};
 ghost use Rattle.std.proofs.Common.{lit≤};
 ghost use Rattle.links.specs.Links.{weigh_all};
-ghost use Rattle.links.specs.Slots.{slots_of, slotted, all_filled, in_slots_short};
+ghost use Rattle.links.specs.Slots.{in_slots, all_filled, in_slots_short};
 
 use super::link::{Empty, Link, Untaken, admit};
 use super::padded::{LONGEST_MESSAGE, padded};
+use super::ring::Ring;
 use messages::message::Message;
 
 const SLOTS: usize = 64;
@@ -12,41 +13,34 @@ const SLOTS: usize = 64;
 // 64 messages weigh no less, so a link that has space has a slot.
 const LIMIT: usize = 512;
 
-// Messages in 64 slots of the longest message's length. They stand in the slots from the first one on, and go on in slot 0
-// behind the last.
+// Messages in 64 slots of the longest message's length.
 #[derive(Drop)]
 pub struct SlotLink {
-    table: [u8; SLOTS * LONGEST_MESSAGE],
-    first: usize,
-    count: usize,
+    slots: Ring<[u8; LONGEST_MESSAGE], SLOTS>,
     weight: usize,
-    ghost long: { length table ≡ 3072 },
-    ghost within: { first < 64 },
-    ghost filled: { all_filled (slots_of table first count) ≡ true },
-    ghost weighs: { weight ≡ weigh_all (slotted table first count) },
-    ghost light: { weigh_all (slotted table first count) ≤ 512 },
+    ghost filled: { all_filled slots ≡ true },
+    ghost weighs: { weight ≡ weigh_all (in_slots slots) },
+    ghost light: { weigh_all (in_slots slots) ≤ 512 },
 }
 
 impl SlotLink {
     // A link on which nothing waits.
     pub fn new() -> SlotLink
-        ensures { slotted result.table result.first result.count ≡ [] }
+        ensures { in_slots result.slots ≡ [] }
     {
         SlotLink {
-            table: [0; SLOTS * LONGEST_MESSAGE],
-            first: 0,
-            count: 0,
+            slots: Ring::new([0; LONGEST_MESSAGE]),
             weight: 0,
         }
     }
 }
 
 impl Link for SlotLink {
-    ghost waiting = { λ l. slotted l.table l.first l.count };
+    ghost waiting = { λ l. in_slots l.slots };
 
     ghost limit = { λ l. 512 };
 
-    ghost laws = { record { low = λ l. lit≤ tt; high = λ l. lit≤ tt; light = λ l. l.light; short = λ l. in_slots_short (slots_of l.table l.first l.count) l.filled } };
+    ghost laws = { record { low = λ l. lit≤ tt; high = λ l. lit≤ tt; light = λ l. l.light; short = λ l. in_slots_short l.slots l.filled } };
 
     fn limit(&self) -> usize {
         LIMIT
@@ -54,35 +48,25 @@ impl Link for SlotLink {
 
     fn offer(&mut self, message: Message<'_>) -> Result<(), Untaken> {
         admit(&message, self.weight, LIMIT)?;
-        let at = (self.first + self.count) % SLOTS * LONGEST_MESSAGE;
-        self.table[at..at + LONGEST_MESSAGE].copy_from_slice(&padded(&message));
-        self.count += 1;
+        self.slots.push_back(padded(&message));
         self.weight += message.weight();
         Ok(())
     }
 
     fn first(&self) -> Option<Message<'_>> {
-        if self.count == 0 {
-            return None;
-        }
-        let at = self.first * LONGEST_MESSAGE;
-        let (message, _) = Message::split_first(&self.table[at..at + LONGEST_MESSAGE])?;
-        Some(message)
+        let slot = self.slots.front()?;
+        Message::split_first(slot).map(|(message, _)| message)
     }
 
     fn drop_first(&mut self) -> Result<(), Empty> {
-        let Some(message) = self.first() else {
-            return Err(Empty);
-        };
-        let weight = message.weight();
-        self.first = (self.first + 1) % SLOTS;
-        self.count -= 1;
+        let weight = self.first().ok_or(Empty)?.weight();
+        self.slots.drop_front();
         self.weight -= weight;
         Ok(())
     }
 
     fn count(&self) -> usize {
-        self.count
+        self.slots.len()
     }
 
     fn weight(&self) -> usize {
@@ -90,7 +74,7 @@ impl Link for SlotLink {
     }
 
     fn clear(&mut self) {
-        self.count = 0;
+        self.slots.clear();
         self.weight = 0;
     }
 }
