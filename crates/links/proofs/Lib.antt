@@ -5,4 +5,3 @@ pub mod Records
 pub mod Rings
 pub mod Slots
 pub mod Spelled
-pub mod Writing

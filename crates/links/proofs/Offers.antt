@@ -6,7 +6,7 @@ use Rattle.messages.specs.Messages.{Content, Short, content_of, body_of, weight_
 use Rattle.messages.specs.declared.message.Message.{Message}
 use Rattle.links.specs.declared.link.Untaken.{Untaken}
 use Rattle.links.specs.declared.link.Untaken.TheVariants.{LongBody, NoSpace}
-use Rattle.links.specs.Links.{weigh_all, all_short, offer_answer, offered, first_of, rest_of, drop_answer, says}
+use Rattle.links.specs.Links.{weigh_all, all_short, offer_answer, offered, first_of, rest_of, says}
 
 -- what waits after an offer, by its answer
 pub answered : (limit : ℕ) (m : Content) (ms : List Content) (r : Answer (Unit {0}) Untaken) → r ≡ offer_answer limit (weigh_all ms) m → cond (is_ok r) (ms ++ m ∷ []) ms ≡ offered limit m ms
@@ -39,15 +39,10 @@ pub short_rest : (ms : List Content) → all_short ms ≡ true → all_short (re
 short_rest [] e = refl
 short_rest (m ∷ ms) e = (and_parts (leb (length (body_of m)) longest_body) (all_short ms) e).1
 
--- the first of some messages, and the others
-pub record Front (m : Content) (ms : List Content) : Type 0 where
-  pub heavier : weigh_all ms ≡ weight_of m + weigh_all (rest_of ms)
-  pub fewer : length ms ≡ length (rest_of ms) + 1
-  pub some : Ok tt ≡ drop_answer ms
-
-pub front_of : (m : Content) (ms : List Content) → Some m ≡ first_of ms → Front m ms
-front_of m [] e = absurd (true≢false (ap is_some e))
-front_of m (n ∷ ms) e = let same : n ≡ m = cc in record { heavier = ap (λ k. weight_of k + weigh_all ms) same; fewer = omega arith; some = refl }
+-- the first of some messages is one more than the others
+pub fewer : (m : Content) (ms : List Content) → Some m ≡ first_of ms → length ms ≡ length (rest_of ms) + 1
+fewer m [] e = absurd (true≢false (ap is_some e))
+fewer m (n ∷ ms) e = omega arith
 
 -- what a message that was read says, where it is the first
 pub first_said : {r : Option Message} {message : Message} (ms : List Content) → says r ≡ first_of ms → r ≡ Some message → Some (content_of message) ≡ first_of ms

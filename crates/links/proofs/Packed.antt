@@ -9,7 +9,7 @@ use Rattle.links.specs.declared.packed_link.PackedLink.{PackedLink}
 use Rattle.links.specs.Links.{all_short, weigh_all, offer_answer, offered, first_of, rest_of}
 use Rattle.links.specs.Slots.{padded_bytes}
 use Rattle.links.specs.Spelling.{spelling, spelled, spelled_weight, weigh_least}
-use Rattle.links.proofs.Offers.{admitted, answered, short_push, short_rest, front_of}
+use Rattle.links.proofs.Offers.{admitted, answered, short_push, short_rest, fewer}
 use Rattle.links.proofs.Spelled.{spells_push, spells_rest}
 
 -- the messages that wait on a packed link
@@ -75,6 +75,6 @@ dropped l {m} {ys} {weight} is w e =
       are = s.are;
       within = omega (arith, l.within);
       spells = s.again;
-      counts = omega (arith, l.counts, (front_of m (waits l) is).fewer);
+      counts = omega (arith, l.counts, fewer m (waits l) is);
       short = ap all_short s.are ∙ short_rest (waits l) l.short;
     }

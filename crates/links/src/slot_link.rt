@@ -54,8 +54,7 @@ impl Link for SlotLink {
     }
 
     fn first(&self) -> Option<Message<'_>> {
-        let slot = self.slots.front()?;
-        Message::split_first(slot).map(|(message, _)| message)
+        Message::split_first(self.slots.front()?).map(|(message, _)| message)
     }
 
     fn drop_first(&mut self) -> Result<(), Empty> {
