@@ -39,10 +39,14 @@ pub short_rest : (ms : List Content) → all_short ms ≡ true → all_short (re
 short_rest [] e = refl
 short_rest (m ∷ ms) e = (and_parts (leb (length (body_of m)) longest_body) (all_short ms) e).1
 
--- the first of some messages is one more than the others
-pub fewer : (m : Content) (ms : List Content) → Some m ≡ first_of ms → length ms ≡ length (rest_of ms) + 1
-fewer m [] e = absurd (true≢false (ap is_some e))
-fewer m (n ∷ ms) e = omega arith
+-- the first of some messages is one more than the others, and weighs so much more
+pub record Front (m : Content) (ms : List Content) : Type 0 where
+  pub fewer : length ms ≡ length (rest_of ms) + 1
+  pub heavier : weigh_all ms ≡ weight_of m + weigh_all (rest_of ms)
+
+pub front_of : (m : Content) (ms : List Content) → Some m ≡ first_of ms → Front m ms
+front_of m [] e = absurd (true≢false (ap is_some e))
+front_of m (n ∷ ms) e = let same : n ≡ m = cc in record { fewer = omega arith; heavier = ap (λ k. weight_of k + weigh_all ms) same }
 
 -- what a message that was read says, where it is the first
 pub first_said : {r : Option Message} {message : Message} (ms : List Content) → says r ≡ first_of ms → r ≡ Some message → Some (content_of message) ≡ first_of ms

@@ -1,5 +1,5 @@
 -- A packed link with a message more behind the others, and with the first gone.
-use Rattle.std.proofs.Common.{◌≡◌, ℕ, ◌+◌, ◌-◌, ◌*◌, ◌≤◌, true, cond, List, [], ◌∷◌, ◌++◌, length, take, drop, is_ok, Some, Ok, Err, Result as Answer, sym, ap, ◌∙◌, arith, length-append, length-drop}
+use Rattle.std.proofs.Common.{◌≡◌, ℕ, ◌+◌, ◌-◌, ◌*◌, ◌≤◌, true, cond, List, [], ◌∷◌, ◌++◌, length, take, drop, is_ok, Some, Ok, Err, Result as Answer, sym, ap, ◌∙◌, arith, length-append}
 use Rattle.std.specs.Result.{IsOk, OnOk}
 use Rattle.std.proofs.lemmas.Bool.{true≢false}
 use Rattle.std.proofs.lemmas.List.{take_at}
@@ -9,7 +9,7 @@ use Rattle.links.specs.declared.packed_link.PackedLink.{PackedLink}
 use Rattle.links.specs.Links.{all_short, weigh_all, offer_answer, offered, first_of, rest_of}
 use Rattle.links.specs.Slots.{padded_bytes}
 use Rattle.links.specs.Spelling.{spelling, spelled, spelled_weight, weigh_least}
-use Rattle.links.proofs.Offers.{admitted, answered, short_push, short_rest, fewer}
+use Rattle.links.proofs.Offers.{admitted, answered, weigh_push, short_push, short_rest, front_of}
 use Rattle.links.proofs.Spelled.{spells_push, spells_rest}
 
 -- the messages that wait on a packed link
@@ -18,7 +18,7 @@ waits l = spelled l.bytes.items
 
 -- each of them weighs a header at least
 pub few : (l : PackedLink) → 8 * l.count ≤ 502
-few l = let n = weigh_least (waits l) in let w = spelled_weight l.bytes.items l.spells in omega (arith, l.counts, l.within)
+few l = let n = weigh_least (waits l) in omega (arith, l.counts, l.light)
 
 -- what an offer is answered by the bytes in use, it is by what waits; and what waits then
 pub record Answered (l : PackedLink) (m : Content) (r : Answer (Unit {0}) Untaken) : Type 0 where
@@ -43,9 +43,9 @@ appended m xs ys ps n r p w space fits after =
 -- bytes in use, how many messages they spell, and which
 pub record Kept (xs : List ℕ) (count : ℕ) (ms : List Content) : Type 0 where
   pub are : spelled xs ≡ ms
-  pub within : length xs ≤ 502
   pub spells : spelling (spelled xs) ≡ xs
   pub counts : count ≡ length (spelled xs)
+  pub light : weigh_all (spelled xs) ≤ 502
   pub short : all_short (spelled xs) ≡ true
 
 -- a link with a message more behind the others
@@ -56,12 +56,12 @@ pushed l m ys r {used} {n} {ps} taken u p w fits after =
     let e = appended m l.bytes.items ys ps n r p w (omega (arith, a.space)) fits after in
     let s = spells_push l.bytes.items ys m l.spells e in
     let many = ap length s.are ∙ length-append ms (m ∷ []) in
-    let long = ap length e ∙ length-append l.bytes.items (message_bytes m) in
+    let weigh = ap weigh_all s.are ∙ weigh_push ms m in
     record {
       are = s.are ∙ (answered_by l m taken u).after;
-      within = let b = as_long m in omega (arith, a.space);
       spells = s.again;
       counts = omega (arith, l.counts);
+      light = let w = spelled_weight l.bytes.items l.spells in omega (arith, a.space);
       short = ap all_short s.are ∙ short_push ms m l.short a.short;
     }
 
@@ -70,11 +70,12 @@ pub dropped : (l : PackedLink) {m : Content} {ys : List ℕ} {weight : ℕ} → 
 dropped l {m} {ys} {weight} is w e =
     let s = spells_rest m l.bytes.items ys weight l.spells is w e in
     let many = ap length s.are in
-    let long = ap length e ∙ length-drop weight l.bytes.items in
+    let weigh = ap weigh_all s.are in
+    let front = front_of m (waits l) is in
     record {
       are = s.are;
-      within = omega (arith, l.within);
       spells = s.again;
-      counts = omega (arith, l.counts, fewer m (waits l) is);
+      counts = omega (arith, l.counts, front.fewer);
+      light = omega (arith, l.light, front.heavier);
       short = ap all_short s.are ∙ short_rest (waits l) l.short;
     }

@@ -47,6 +47,3 @@ spelled_back ms = messages_back (length (spelling ms)) ms (let a = spelling_long
 -- messages that bytes spell, with nothing left over, weigh as many
 pub spelled_weight : (xs : List ℕ) → spelling (spelled xs) ≡ xs → weigh_all (spelled xs) ≡ length xs
 spelled_weight xs e = sym (spelling_long (spelled xs)) ∙ ap length e
-
-pub spelled_light : (limit : ℕ) (xs : List ℕ) → spelling (spelled xs) ≡ xs → length xs ≤ limit → weigh_all (spelled xs) ≤ limit
-spelled_light limit xs e h = let w = spelled_weight xs e in omega arith

@@ -1,8 +1,8 @@
 ghost use Rattle.std.specs.Prelude.{◌≡◌, ◌≤◌, true, [], length};
 ghost use Rattle.std.proofs.Common.{lit≤};
 ghost use Rattle.links.specs.EventRecords.{Takes29};
-ghost use Rattle.links.specs.Links.{all_short};
-ghost use Rattle.links.specs.Spelling.{spelling, spelled, spelled_light};
+ghost use Rattle.links.specs.Links.{weigh_all, all_short};
+ghost use Rattle.links.specs.Spelling.{spelling, spelled};
 
 use super::link::{Empty, Link, Untaken, admit};
 use super::padded::padded;
@@ -18,9 +18,9 @@ const DATA_LENGTH: usize = 502;
 pub struct PackedLink {
     bytes: ArrayVec<u8, DATA_LENGTH>,
     count: usize,
-    ghost within: { length bytes.items ≤ 502 },
     ghost spells: { spelling (spelled bytes.items) ≡ bytes.items },
     ghost counts: { count ≡ length (spelled bytes.items) },
+    ghost light: { weigh_all (spelled bytes.items) ≤ 502 },
     ghost short: { all_short (spelled bytes.items) ≡ true },
 }
 
@@ -49,7 +49,7 @@ impl Link for PackedLink {
 
     ghost limit = { λ l. 502 };
 
-    ghost laws = { record { low = λ l. lit≤ tt; high = λ l. lit≤ tt; light = λ l. spelled_light 502 l.bytes.items l.spells l.within; short = λ l. l.short } };
+    ghost laws = { record { low = λ l. lit≤ tt; high = λ l. lit≤ tt; light = λ l. l.light; short = λ l. l.short } };
 
     fn limit(&self) -> usize {
         DATA_LENGTH

@@ -17,7 +17,7 @@ pub invariant_of-self : goal.invariant_of-self
 invariant_of-self c =
     let e = c.try_extend_from_slice in
     let k = pushed c.args.self.now (content_of c.args.message) e.new.self.items e.result c.in_ok-admit.ensures c.len.ensures.value c.padded-bytes.ensures c.weight.ensures.is e.ensures.variant.1 e.ensures.ok in
-    record { within = k.within; spells = k.spells; counts = k.counts; short = k.short }
+    record { spells = k.spells; counts = k.counts; light = k.light; short = k.short }
 
 pub returns : goal.returns
 returns c =
