@@ -1,11 +1,12 @@
 -- Which offers are taken, and lists with one message more and with one less.
-use Rattle.std.proofs.Common.{◌≡◌, ℕ, ◌+◌, ◌≤◌, Bool, true, false, cond, leb, List, [], ◌∷◌, ◌++◌, length, is_some, is_ok, Some, Ok, Err, Result as Answer, refl, ap, arith}
+use Rattle.std.proofs.Common.{◌≡◌, ℕ, ◌+◌, ◌≤◌, Bool, true, false, cond, leb, List, [], ◌∷◌, ◌++◌, length, is_some, is_ok, Some, Ok, Err, Option, Result as Answer, sym, refl, ap, ◌∙◌, arith}
 use Rattle.std.proofs.lemmas.Bool.{true≢false, leb-true, le-leb, and_parts, and_from}
 use Rattle.bodies.specs.Weights.{longest_body}
-use Rattle.messages.specs.Messages.{Content, Short, body_of, weight_of}
+use Rattle.messages.specs.Messages.{Content, Short, content_of, body_of, weight_of}
+use Rattle.messages.specs.declared.message.Message.{Message}
 use Rattle.links.specs.declared.link.Untaken.{Untaken}
 use Rattle.links.specs.declared.link.Untaken.TheVariants.{LongBody, NoSpace}
-use Rattle.links.specs.Links.{weigh_all, all_short, offer_answer, offered, first_of, rest_of, drop_answer}
+use Rattle.links.specs.Links.{weigh_all, all_short, offer_answer, offered, first_of, rest_of, says}
 
 -- what waits after an offer, by its answer
 pub answered : (limit : ℕ) (m : Content) (ms : List Content) (r : Answer (Unit {0}) Untaken) → r ≡ offer_answer limit (weigh_all ms) m → cond (is_ok r) (ms ++ m ∷ []) ms ≡ offered limit m ms
@@ -38,12 +39,15 @@ pub short_rest : (ms : List Content) → all_short ms ≡ true → all_short (re
 short_rest [] e = refl
 short_rest (m ∷ ms) e = (and_parts (leb (length (body_of m)) longest_body) (all_short ms) e).1
 
--- the first of some messages, and the others
+-- the first of some messages is one more than the others, and weighs so much more
 pub record Front (m : Content) (ms : List Content) : Type 0 where
-  pub heavier : weigh_all ms ≡ weight_of m + weigh_all (rest_of ms)
   pub fewer : length ms ≡ length (rest_of ms) + 1
-  pub some : Ok tt ≡ drop_answer ms
+  pub heavier : weigh_all ms ≡ weight_of m + weigh_all (rest_of ms)
 
 pub front_of : (m : Content) (ms : List Content) → Some m ≡ first_of ms → Front m ms
 front_of m [] e = absurd (true≢false (ap is_some e))
-front_of m (n ∷ ms) e = let same : n ≡ m = cc in record { heavier = ap (λ k. weight_of k + weigh_all ms) same; fewer = omega arith; some = refl }
+front_of m (n ∷ ms) e = let same : n ≡ m = cc in record { fewer = omega arith; heavier = ap (λ k. weight_of k + weigh_all ms) same }
+
+-- what a message that was read says, where it is the first
+pub first_said : {r : Option Message} {message : Message} (ms : List Content) → says r ≡ first_of ms → r ≡ Some message → Some (content_of message) ≡ first_of ms
+first_said ms e is = ap says (sym is) ∙ e

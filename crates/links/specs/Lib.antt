@@ -1,5 +1,6 @@
 pub mod EventRecords
 pub mod Links
 pub mod NoneLost
+pub mod Rings
 pub mod Slots
 pub mod Spelling

@@ -4,27 +4,19 @@ use Rattle.std.proofs.lemmas.Bool.{and_parts, and_from}
 use Rattle.bodies.specs.Bodies.{same}
 use Rattle.bodies.specs.Weights.{longest_body}
 use Rattle.messages.specs.Messages.{Content, body_of, message_bytes, first_message}
-use Rattle.numbered.specs.Rings.{ring}
 use Rattle.links.specs.Links.{all_short}
 
--- a message's slot: its bytes, and zeros up to the longest message
-abbrev pub slot_bytes : Content → List ℕ
-slot_bytes m = message_bytes m ++ replicate (longest_body - length (body_of m)) 0
-
--- of 64 slots of 48 bytes, so many from the first on
-abbrev pub slots_of : List ℕ → ℕ → ℕ → List (List ℕ)
-slots_of table first count = ring 64 48 table first count
+-- a message's bytes, and zeros up to the longest message's length
+abbrev pub padded_bytes : Content → List ℕ
+padded_bytes m = message_bytes m ++ replicate (longest_body - length (body_of m)) 0
 
 -- the messages in slots
 abbrev pub in_slots : List (List ℕ) → List Content
 in_slots slots = map first_message slots
 
-abbrev pub slotted : List ℕ → ℕ → ℕ → List Content
-slotted table first count = in_slots (slots_of table first count)
-
 -- whether a slot is that of a message whose body has at most forty bytes
 abbrev pub is_filled : List ℕ → Bool
-is_filled xs = nat_le (length (body_of (first_message xs))) longest_body && same (slot_bytes (first_message xs)) xs
+is_filled xs = nat_le (length (body_of (first_message xs))) longest_body && same (padded_bytes (first_message xs)) xs
 
 abbrev pub all_filled : List (List ℕ) → Bool
 all_filled [] = true

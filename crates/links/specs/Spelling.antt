@@ -1,6 +1,6 @@
 -- Messages back to back: the bytes that a list of messages writes, and the list that bytes spell.
-use Rattle.std.specs.Prelude.{◌≡◌, ℕ, zero, suc, ◌*◌, ◌≤◌, min, cond, List, [], ◌∷◌, length, take, nat_lt, refl}
-use Rattle.std.proofs.Common.{sym, ap, ◌∙◌, arith, length-append, length-take}
+use Rattle.std.specs.Prelude.{◌≡◌, ℕ, zero, suc, ◌*◌, ◌≤◌, cond, List, [], ◌∷◌, length, nat_lt, refl}
+use Rattle.std.proofs.Common.{sym, ap, ◌∙◌, arith, length-append}
 use Rattle.std.proofs.lemmas.Bool.{le-ltb}
 use Rattle.std.specs.List.{flat_map}
 use Rattle.bodies.specs.Weights.{header_length}
@@ -20,10 +20,6 @@ first_messages (suc n) xs = cond (nat_lt (length xs) header_length) [] (first_me
 -- write others
 abbrev pub spelled : List ℕ → List Content
 spelled xs = first_messages (length xs) xs
-
--- the messages in a block of which so many bytes are in use
-abbrev pub packed : ℕ → List ℕ → List Content
-packed used bytes = spelled (take used bytes)
 
 -- messages write as many bytes as they weigh
 pub spelling_long : (ms : List Content) → length (spelling ms) ≡ weigh_all ms
@@ -51,10 +47,3 @@ spelled_back ms = messages_back (length (spelling ms)) ms (let a = spelling_long
 -- messages that bytes spell, with nothing left over, weigh as many
 pub spelled_weight : (xs : List ℕ) → spelling (spelled xs) ≡ xs → weigh_all (spelled xs) ≡ length xs
 spelled_weight xs e = sym (spelling_long (spelled xs)) ∙ ap length e
-
--- so those in a block weigh as many as are in use, or as there are
-pub packed_weight : (used : ℕ) (bytes : List ℕ) → spelling (packed used bytes) ≡ take used bytes → weigh_all (packed used bytes) ≡ min used (length bytes)
-packed_weight used bytes e = spelled_weight (take used bytes) e ∙ length-take used bytes
-
-pub packed_light : (used limit : ℕ) (bytes : List ℕ) → spelling (packed used bytes) ≡ take used bytes → used ≤ limit → weigh_all (packed used bytes) ≤ limit
-packed_light used limit bytes e h = let w = packed_weight used bytes e in omega arith

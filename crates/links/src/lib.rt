@@ -3,5 +3,6 @@
 
 pub mod link;
 pub mod packed_link;
-mod packing;
+mod padded;
+mod ring;
 pub mod slot_link;

@@ -1,66 +1,46 @@
-ghost use Rattle.std.specs.Prelude.{◌≡◌, ◌<◌, ◌≤◌, true, [], length};
+ghost use Rattle.std.specs.Prelude.{◌≡◌, ◌≤◌, true, []};
 ghost use Rattle.std.proofs.Common.{lit≤};
-ghost use Rattle.messages.specs.Messages.{Short, content_of};
 ghost use Rattle.links.specs.Links.{weigh_all};
-ghost use Rattle.links.specs.Slots.{slot_bytes, slots_of, slotted, all_filled, in_slots_short};
+ghost use Rattle.links.specs.Slots.{in_slots, all_filled, in_slots_short};
 
 use super::link::{Empty, Link, Untaken, admit};
-use bodies::weight::HEADER_LENGTH;
-use messages::message::{LONGEST_BODY, Message};
+use super::padded::{LONGEST_MESSAGE, padded};
+use super::ring::Ring;
+use messages::message::Message;
 
 const SLOTS: usize = 64;
-
-const SLOT_LENGTH: usize = HEADER_LENGTH + LONGEST_BODY;
 
 // 64 messages weigh no less, so a link that has space has a slot.
 const LIMIT: usize = 512;
 
-// Messages in 64 slots of the longest message's length. They stand in the slots from the first one on, and go on in slot 0
-// behind the last.
+// Messages in 64 slots of the longest message's length.
 #[derive(Drop)]
 pub struct SlotLink {
-    table: [u8; SLOTS * SLOT_LENGTH],
-    first: usize,
-    count: usize,
+    slots: Ring<[u8; LONGEST_MESSAGE], SLOTS>,
     weight: usize,
-    ghost long: { length table ≡ 3072 },
-    ghost within: { first < 64 },
-    ghost filled: { all_filled (slots_of table first count) ≡ true },
-    ghost weighs: { weight ≡ weigh_all (slotted table first count) },
-    ghost light: { weigh_all (slotted table first count) ≤ 512 },
-}
-
-// A short message's slot.
-fn slot(message: Message<'_>) -> [u8; SLOT_LENGTH]
-    requires { Short (content_of message) }
-    ensures { result ≡ slot_bytes (content_of message.entry) }
-{
-    let mut bytes = [0; SLOT_LENGTH];
-    // A part of just the message's weight refuses no short message.
-    let _ = message.write(&mut bytes[0..message.weight()]);
-    bytes
+    ghost filled: { all_filled slots ≡ true },
+    ghost weighs: { weight ≡ weigh_all (in_slots slots) },
+    ghost light: { weigh_all (in_slots slots) ≤ 512 },
 }
 
 impl SlotLink {
     // A link on which nothing waits.
     pub fn new() -> SlotLink
-        ensures { slotted result.table result.first result.count ≡ [] }
+        ensures { in_slots result.slots ≡ [] }
     {
         SlotLink {
-            table: [0; SLOTS * SLOT_LENGTH],
-            first: 0,
-            count: 0,
+            slots: Ring::new([0; LONGEST_MESSAGE]),
             weight: 0,
         }
     }
 }
 
 impl Link for SlotLink {
-    ghost waiting = { λ l. slotted l.table l.first l.count };
+    ghost waiting = { λ l. in_slots l.slots };
 
     ghost limit = { λ l. 512 };
 
-    ghost laws = { record { low = λ l. lit≤ tt; high = λ l. lit≤ tt; light = λ l. l.light; short = λ l. in_slots_short (slots_of l.table l.first l.count) l.filled } };
+    ghost laws = { record { low = λ l. lit≤ tt; high = λ l. lit≤ tt; light = λ l. l.light; short = λ l. in_slots_short l.slots l.filled } };
 
     fn limit(&self) -> usize {
         LIMIT
@@ -68,35 +48,24 @@ impl Link for SlotLink {
 
     fn offer(&mut self, message: Message<'_>) -> Result<(), Untaken> {
         admit(&message, self.weight, LIMIT)?;
-        let at = (self.first + self.count) % SLOTS * SLOT_LENGTH;
-        self.table[at..at + SLOT_LENGTH].copy_from_slice(&slot(message));
-        self.count += 1;
+        self.slots.push_back(padded(&message));
         self.weight += message.weight();
         Ok(())
     }
 
     fn first(&self) -> Option<Message<'_>> {
-        if self.count == 0 {
-            return None;
-        }
-        let at = self.first * SLOT_LENGTH;
-        let (message, _) = Message::split_first(&self.table[at..at + SLOT_LENGTH])?;
-        Some(message)
+        Message::split_first(self.slots.front()?).map(|(message, _)| message)
     }
 
     fn drop_first(&mut self) -> Result<(), Empty> {
-        let Some(message) = self.first() else {
-            return Err(Empty);
-        };
-        let weight = message.weight();
-        self.first = (self.first + 1) % SLOTS;
-        self.count -= 1;
+        let weight = self.first().ok_or(Empty)?.weight();
+        self.slots.drop_front();
         self.weight -= weight;
         Ok(())
     }
 
     fn count(&self) -> usize {
-        self.count
+        self.slots.len()
     }
 
     fn weight(&self) -> usize {
@@ -104,7 +73,7 @@ impl Link for SlotLink {
     }
 
     fn clear(&mut self) {
-        self.count = 0;
+        self.slots.clear();
         self.weight = 0;
     }
 }

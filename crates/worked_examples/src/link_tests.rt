@@ -4,6 +4,7 @@ use links::link::{Empty, Link, LinkCall, Untaken};
 use links::packed_link::PackedLink;
 use links::slot_link::SlotLink;
 use messages::message::Message;
+use std::array;
 use std::process::Abort;
 use std::test::Fail;
 
@@ -140,7 +141,7 @@ struct Dozen {
 
 // Fills each other link, and sees that the next one stays empty.
 fn fill_each_other<L: Link>(rt: &impl Abort, links: &mut [L; 6], most: usize) -> Result<(), Fail> {
-    for place in [0usize, 2, 4] {
+    for place in [0, 2, 4] {
         fill(rt, &mut links[place])?;
         assert_eq!(rt; links[place].count(), most);
         assert_eq!(rt; links[place + 1].count(), 0);
@@ -151,22 +152,8 @@ fn fill_each_other<L: Link>(rt: &impl Abort, links: &mut [L; 6], most: usize) ->
 #[test]
 fn links_stand_by_the_dozen(rt: HostRuntime) -> Result<(), Fail> {
     let mut dozen = Dozen {
-        packed: [
-            PackedLink::new(),
-            PackedLink::new(),
-            PackedLink::new(),
-            PackedLink::new(),
-            PackedLink::new(),
-            PackedLink::new(),
-        ],
-        slots: [
-            SlotLink::new(),
-            SlotLink::new(),
-            SlotLink::new(),
-            SlotLink::new(),
-            SlotLink::new(),
-            SlotLink::new(),
-        ],
+        packed: array::from_fn(|_| PackedLink::new()),
+        slots: array::from_fn(|_| SlotLink::new()),
     };
     fill_each_other(&rt, &mut dozen.packed, 29)?;
     fill_each_other(&rt, &mut dozen.slots, 30)
