@@ -1,5 +1,5 @@
 -- What is cut at a mark, put together again.
-use Rattle.std.proofs.Common.{◌≡◌, ℕ, ◌+◌, ◌-◌, ◌<◌, ◌≤◌, ◌≢◌, Bool, true, false, cond, eqb, List, [], ◌∷◌, ◌++◌, length, get_or, take, drop, sym, ap, ◌∙◌, arith, take-append-drop}
+use Rattle.std.proofs.Common.{◌≡◌, ℕ, ◌+◌, ◌-◌, ◌<◌, ◌≢◌, Bool, true, false, cond, eqb, List, [], ◌∷◌, ◌++◌, length, get_or, take, drop, sym, ap, ◌∙◌, arith, take-append-drop}
 use Rattle.std.proofs.lemmas.List.{drop_more, take_rest, get_or-take, length-take}
 use Rattle.std.proofs.ByRecursion.{All-from_get_or}
 use Rattle.std.proofs.lemmas.Bool.{eqb-false, ne_eqb, cond-false}
@@ -23,8 +23,3 @@ pub byte_without : (mark b : ℕ) (pieces : List (List ℕ)) → AllByRecursion 
 byte_without mark b pieces all true is = (tt, all)
 byte_without mark b [] all false is = ((eqb-false b mark is, tt), tt)
 byte_without mark b (piece ∷ more) all false is = ((eqb-false b mark is, all.0), all.1)
-
--- bytes are the first of them and the others, as `[first, others @ ..]` takes them apart
-pub first_and_others : (bytes : List ℕ) → 1 ≤ length bytes → bytes ≡ get_or bytes 0 0 ∷ take (length bytes - 1) (drop 1 bytes)
-first_and_others [] some = absurd (omega arith)
-first_and_others (b ∷ bs) some = ap (λ l. b ∷ l) (sym (take_rest (b ∷ bs) 1))
