@@ -1,11 +1,36 @@
 -- The laws of lines, and the first line of a text that is cut at its first newline.
-use Rattle.std.proofs.Common.{◌≡◌, ℕ, ◌<◌, ◌≤◌, Bool, true, false, cond, eqb, List, [], ◌∷◌, ◌++◌, length, Some, None, Option, sym, refl, ap, ◌∙◌, subst, arith, Bor, MatchOption}
+use Rattle.std.proofs.Common.{◌≡◌, ℕ, ◌+◌, ◌<◌, ◌≤◌, Bool, true, false, cond, eqb, List, [], ◌∷◌, ◌++◌, length, Some, None, Option, sym, refl, ap, ◌∙◌, subst, arith, Bor, MatchOption}
 use Rattle.std.specs.List.{flat_map, AllByRecursion}
 use Rattle.std.specs.Option.{option_or}
 use Rattle.std.proofs.lemmas.Bool.{eqb-true}
+use Rattle.std.proofs.lemmas.Bool.Decides.{nat_tests}
 use Rattle.script.specs.Bytes.{Without, front}
-use Rattle.script.specs.Lines.{lines, first_line, after_line, closed, Cut, lines_first, after_line_shorter, LinesRight}
+use Rattle.script.specs.Lines.{lines, first_line, after_line, closed, Cut, LinesRight}
 use Rattle.script.proofs.Pieces.{no_mark, byte_without}
+
+-- a text that is not empty has its first line, and then the lines of what follows that
+lines_first : (text : List ℕ) → 1 ≤ length text → lines text ≡ first_line text ∷ lines (after_line text)
+lines_first [] some = absurd (omega arith)
+lines_first (b ∷ []) some = grind (arith, nat_tests)
+lines_first (b ∷ c ∷ cs) some = let more = lines_first (c ∷ cs) (omega arith) in grind (arith, nat_tests)
+
+after_line_short : (text : List ℕ) → length (after_line text) ≤ length text
+after_line_short [] = omega arith
+after_line_short (b ∷ bs) = let short = after_line_short bs in grind (arith, nat_tests)
+
+-- and what follows is shorter than the text
+after_line_shorter : (text : List ℕ) → 1 ≤ length text → length (after_line text) < length text
+after_line_shorter [] some = absurd (omega arith)
+after_line_shorter (b ∷ bs) some = let short = after_line_short bs in grind (arith, nat_tests)
+
+front_few : (b : ℕ) (ls : List (List ℕ)) → length (front b ls) ≤ length ls + 1
+front_few b [] = omega arith
+front_few b (l ∷ ls) = omega arith
+
+-- a text has no more lines than bytes
+pub lines_few : (text : List ℕ) → length (lines text) ≤ length text
+lines_few [] = omega arith
+lines_few (b ∷ bs) = let few = lines_few bs in let front = front_few b (lines bs) in grind (arith, nat_tests)
 
 abbrev Piece : Type 0
 Piece = Bor (List ℕ)
