@@ -16,7 +16,7 @@ use line_operators::sessions::Sessions;
 use line_operators::totals::Totals;
 use operators::operator::Operator;
 use operators::pipe::Pipe;
-use script::split_line;
+use script::Lines;
 use std::alloc::{AllocError, Global};
 
 // What was billed, and the number of the first bad line, where the day ended early.
@@ -78,19 +78,15 @@ pub fn bill_by<F: Operator<In = Event, Out = Call>, S: Operator<In = Call, Out =
 {
     let mut pipe = Pipe::<F, S>::start();
     let mut entries = Vec::new(heap);
-    let mut rest = text;
-    let mut number = 0usize;
-    while let Some((line, more)) = split_line(rest) {
-        number += 1;
+    for (index, line) in Lines::new(text).enumerate() {
         let Some(event) = read_event(line) else {
             return Ok(Bill {
                 entries,
-                bad: Some(number),
+                bad: Some(index + 1),
             });
         };
         let (call, charge) = pipe.take_through(event);
         note(&mut entries, call, charge)?;
-        rest = more;
     }
     Ok(Bill { entries, bad: None })
 }

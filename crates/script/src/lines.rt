@@ -1,4 +1,4 @@
-ghost use Rattle.std.specs.Prelude.{◌≡◌, [], MatchOption};
+ghost use Rattle.std.specs.Prelude.{◌≡◌, ◌≤◌, [], length, MatchOption};
 ghost use Rattle.std.specs.Iterator.{YieldsFirstRef, item_count};
 ghost use Rattle.script.specs.Lines.{Cut, LinesRight, left, lines};
 
@@ -24,7 +24,8 @@ pub struct Lines<'a> {
 
 impl<'a> Lines<'a> {
     pub fn new(text: &'a [u8]) -> Self
-        ensures { left result ≡ lines text.now }
+        ensures rest { left result ≡ lines text.now }
+        ensures few { length (left result) ≤ length text.now }
     {
         Lines { rest: text }
     }
