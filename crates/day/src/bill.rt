@@ -78,11 +78,11 @@ pub fn bill_by<F: Operator<In = Event, Out = Call>, S: Operator<In = Call, Out =
 {
     let mut pipe = Pipe::<F, S>::start();
     let mut entries = Vec::new(heap);
-    for (index, line) in Lines::new(text).enumerate() {
+    for (number, line) in (1..).zip(Lines::new(text)) {
         let Some(event) = read_event(line) else {
             return Ok(Bill {
                 entries,
-                bad: Some(index + 1),
+                bad: Some(number),
             });
         };
         let (call, charge) = pipe.take_through(event);
