@@ -60,13 +60,8 @@ fn note(
 ) -> Result<(), AllocError>
     ensures { OnOk result (entries.new.items ≡ entries.old.items ++ shown (listed call) (listed charge)) }
 {
-    if let Some(call) = call {
-        entries.push(Entry::Call(call))?;
-    }
-    if let Some(charge) = charge {
-        entries.push(Entry::Charge(charge))?;
-    }
-    Ok(())
+    entries.extend(call.map(Entry::Call))?;
+    entries.extend(charge.map(Entry::Charge))
 }
 
 // The bill of a day's script, by the operators that turn its events into calls and its calls into charges.
