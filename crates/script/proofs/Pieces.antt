@@ -2,7 +2,7 @@
 use Rattle.std.proofs.Common.{◌≡◌, ℕ, ◌+◌, ◌-◌, ◌<◌, ◌≢◌, Bool, true, false, cond, eqb, List, [], ◌∷◌, ◌++◌, length, get_or, take, drop, sym, ap, ◌∙◌, arith, take-append-drop}
 use Rattle.std.proofs.lemmas.List.{drop_more, take_rest, get_or-take, length-take}
 use Rattle.std.proofs.ByRecursion.{All-from_get_or}
-use Rattle.std.proofs.lemmas.Bool.{eqb-false, ne_eqb, cond-false}
+use Rattle.std.proofs.lemmas.Bool.{eqb-false}
 use Rattle.std.specs.List.{AllByRecursion}
 use Rattle.script.specs.Bytes.{Without, front}
 
@@ -13,10 +13,6 @@ parted bytes mark i within is before =
       All-from_get_or (λ b. b ≢ mark) (take i bytes) 0 (λ k short. let below : k < i = omega (arith, length-take {A = ℕ}) in rw get_or-take (before k below)),
       sym (take-append-drop i bytes) ∙ ap (λ l. take i bytes ++ l) back,
     )
-
--- a byte that is no mark
-pub no_mark : {A : Type 0} (mark b : ℕ) (x y : A) → (b ≡ mark → ⊥) → cond (eqb b mark) x y ≡ y
-no_mark mark b x y apart = cond-false (eqb b mark) x y (ne_eqb b mark apart)
 
 -- a byte before pieces that hold no mark: it parts them, or stands in front of the first
 pub byte_without : (mark b : ℕ) (pieces : List (List ℕ)) → AllByRecursion (Without mark) pieces → (v : Bool) → eqb b mark ≡ v → AllByRecursion (Without mark) (cond v ([] ∷ pieces) (front b pieces))
