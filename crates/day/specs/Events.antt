@@ -3,11 +3,11 @@ use Rattle.std.specs.Prelude.{ℕ, ◌+◌, List, [], ◌∷◌, Some, None, Opt
 use Rattle.bodies.specs.declared.event.Event.{Event}
 use Rattle.bodies.specs.declared.event.EventKind.TheVariants as kind
 use Rattle.script.specs.Orders.{order_of}
-use Rattle.script.specs.declared.orders.Order.{Order}
-use Rattle.script.specs.declared.orders.Order.TheVariants.{Begin, End, Turn, Fail, Avail}
+use Rattle.script.specs.declared.commands.Command.{Command}
+use Rattle.script.specs.declared.commands.Command.TheVariants.{Begin, End, Turn, Fail, Avail}
 
 -- a begin or an end is an event; no other order is
-abbrev pub event_in : Option Order → Option Event
+abbrev pub event_in : Option (Command ℕ) → Option Event
 event_in None = None
 event_in (Some (Begin line stamp)) = Some (record { line = line; stamp = stamp; kind = kind.Begin })
 event_in (Some (End line stamp)) = Some (record { line = line; stamp = stamp; kind = kind.End })

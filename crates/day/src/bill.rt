@@ -16,7 +16,7 @@ use line_operators::sessions::Sessions;
 use line_operators::totals::Totals;
 use operators::operator::Operator;
 use operators::pipe::Pipe;
-use script::split_line;
+use script::Lines;
 use std::alloc::{AllocError, Global};
 
 // What was billed, and the number of the first bad line, where the day ended early.
@@ -30,14 +30,11 @@ impl Bill {
     pub fn total(&self) -> Total
         ensures { Totalled self.now.entries.items result.calls result.seconds }
     {
-        let mut calls = 0;
-        let mut seconds = 0u64;
-        for entry in self.entries.iter() {
-            if let Entry::Call(call) = entry {
-                calls += 1;
-                seconds = seconds.saturating_add(u64::from(call.seconds));
-            }
-        }
+        let calls = self.entries.iter().filter_map(Entry::call).count();
+        let seconds = self.entries.iter().filter_map(Entry::call).fold(
+            0u64,
+            |sum, call| sum.saturating_add(u64::from(call.seconds)),
+        );
         Total { calls, seconds }
     }
 
@@ -60,13 +57,8 @@ fn note(
 ) -> Result<(), AllocError>
     ensures { OnOk result (entries.new.items ≡ entries.old.items ++ shown (listed call) (listed charge)) }
 {
-    if let Some(call) = call {
-        entries.push(Entry::Call(call))?;
-    }
-    if let Some(charge) = charge {
-        entries.push(Entry::Charge(charge))?;
-    }
-    Ok(())
+    entries.extend(call.map(Entry::Call))?;
+    entries.extend(charge.map(Entry::Charge))
 }
 
 // The bill of a day's script, by the operators that turn its events into calls and its calls into charges.
@@ -78,10 +70,7 @@ pub fn bill_by<F: Operator<In = Event, Out = Call>, S: Operator<In = Call, Out =
 {
     let mut pipe = Pipe::<F, S>::start();
     let mut entries = Vec::new(heap);
-    let mut rest = text;
-    let mut number = 0usize;
-    while let Some((line, more)) = split_line(rest) {
-        number += 1;
+    for (number, line) in (1..).zip(Lines::new(text)) {
         let Some(event) = read_event(line) else {
             return Ok(Bill {
                 entries,
@@ -90,7 +79,6 @@ pub fn bill_by<F: Operator<In = Event, Out = Call>, S: Operator<In = Call, Out =
         };
         let (call, charge) = pipe.take_through(event);
         note(&mut entries, call, charge)?;
-        rest = more;
     }
     Ok(Bill { entries, bad: None })
 }

@@ -1,4 +1,5 @@
-ghost use Rattle.std.specs.Prelude.{Some};
+ghost use Rattle.std.specs.Prelude.{◌≡◌, Some};
+ghost use Rattle.day.specs.Sums.{call_in};
 ghost use Rattle.day.specs.Texts.{entry_text};
 
 use bodies::call::Call;
@@ -11,6 +12,18 @@ use std::fmt::Display;
 pub enum Entry {
     Call(Call),
     Charge(Charge),
+}
+
+impl Entry {
+    // The call, where the entry shows one.
+    pub fn call(&self) -> Option<Call>
+        ensures { result ≡ call_in self.now }
+    {
+        match self {
+            Entry::Call(call) => Some(*call),
+            Entry::Charge(_) => None,
+        }
+    }
 }
 
 impl Display for Entry {

@@ -2,20 +2,21 @@ ghost use Rattle.std.specs.Prelude.{◌≡◌};
 ghost use Rattle.day.specs.declared.unbilled.Unbilled.TheVariants.{Memory};
 
 use std::alloc::AllocError;
-use std::error::Error;
-use std::fmt;
-use std::fmt::Display;
+use thiserror::Error;
 
 // The longest script that is billed, in bytes.
 pub const LONGEST_SCRIPT: usize = 65536;
 
 // Why a day was not billed.
-#[derive(Clone, Copy, PartialEq, Debug)]
+#[derive(Clone, Copy, PartialEq, Debug, Error)]
 pub enum Unbilled {
+    #[error("the script has over {LONGEST_SCRIPT} bytes; nothing was billed")]
     TooLong,
+    #[error("no memory; nothing was billed")]
     Memory,
 }
 
+// By hand, as `bill_day` says which error came of a want of memory.
 impl From<AllocError> for Unbilled {
     ghost from_gives = { λ _ r. r ≡ Memory };
 
@@ -23,17 +24,3 @@ impl From<AllocError> for Unbilled {
         Unbilled::Memory
     }
 }
-
-impl Display for Unbilled {
-    fn fmt<W: fmt::Write>(&self, f: &mut fmt::Formatter<W>) -> fmt::Result {
-        match self {
-            Unbilled::TooLong => write!(
-                f,
-                "the script has over {LONGEST_SCRIPT} bytes; nothing was billed"
-            ),
-            Unbilled::Memory => write!(f, "no memory; nothing was billed"),
-        }
-    }
-}
-
-impl Error for Unbilled {}

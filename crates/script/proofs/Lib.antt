@@ -2,5 +2,4 @@ pub mod Pieces
 pub mod LineLaws
 pub mod Horner
 pub mod WordLaws
-pub mod CommandLaws
 pub mod OrderLaws

@@ -1,11 +1,35 @@
 -- The laws of lines, and the first line of a text that is cut at its first newline.
-use Rattle.std.proofs.Common.{◌≡◌, ℕ, ◌<◌, ◌≤◌, Bool, true, false, cond, eqb, List, [], ◌∷◌, ◌++◌, length, Some, None, Option, sym, refl, ap, ◌∙◌, subst, arith, Bor, MatchOption}
+use Rattle.std.proofs.Common.{◌≡◌, ℕ, ◌+◌, ◌<◌, ◌≤◌, eqb, List, [], ◌∷◌, ◌++◌, length, Some, None, Option, sym, refl, ap, ◌∙◌, subst, arith, Bor, MatchOption}
 use Rattle.std.specs.List.{flat_map, AllByRecursion}
 use Rattle.std.specs.Option.{option_or}
-use Rattle.std.proofs.lemmas.Bool.{eqb-true}
+use Rattle.std.proofs.lemmas.Bool.Decides.{nat_tests}
 use Rattle.script.specs.Bytes.{Without, front}
-use Rattle.script.specs.Lines.{lines, first_line, after_line, closed, Cut, lines_first, after_line_shorter, LinesRight}
-use Rattle.script.proofs.Pieces.{no_mark, byte_without}
+use Rattle.script.specs.Lines.{lines, first_line, after_line, closed, Cut, LinesRight}
+use Rattle.script.proofs.Pieces.{byte_without}
+
+-- a text that is not empty has its first line, and then the lines of what follows that
+lines_first : (text : List ℕ) → 1 ≤ length text → lines text ≡ first_line text ∷ lines (after_line text)
+lines_first [] some = absurd (omega arith)
+lines_first (b ∷ []) some = grind (arith, nat_tests)
+lines_first (b ∷ c ∷ cs) some = let more = lines_first (c ∷ cs) (omega arith) in grind (arith, nat_tests)
+
+after_line_short : (text : List ℕ) → length (after_line text) ≤ length text
+after_line_short [] = omega arith
+after_line_short (b ∷ bs) = let short = after_line_short bs in grind (arith, nat_tests)
+
+-- and what follows is shorter than the text
+after_line_shorter : (text : List ℕ) → 1 ≤ length text → length (after_line text) < length text
+after_line_shorter [] some = absurd (omega arith)
+after_line_shorter (b ∷ bs) some = let short = after_line_short bs in grind (arith, nat_tests)
+
+front_few : (b : ℕ) (ls : List (List ℕ)) → length (front b ls) ≤ length ls + 1
+front_few b [] = omega arith
+front_few b (l ∷ ls) = omega arith
+
+-- a text has no more lines than bytes
+pub lines_few : (text : List ℕ) → length (lines text) ≤ length text
+lines_few [] = omega arith
+lines_few (b ∷ bs) = let few = lines_few bs in let front = front_few b (lines bs) in grind (arith, nat_tests)
 
 abbrev Piece : Type 0
 Piece = Bor (List ℕ)
@@ -17,20 +41,14 @@ ended_front : (b : ℕ) (ls : List (List ℕ)) → 1 ≤ length ls → ended (fr
 ended_front b [] some = absurd (omega arith)
 ended_front b (l ∷ ls) some = refl
 
-last_byte : (b : ℕ) (v : Bool) → eqb b 10 ≡ v → ended (cond v ([] ∷ []) (front b [])) ≡ cond v (b ∷ []) (b ∷ 10 ∷ [])
-last_byte b true is = ap (λ x. x ∷ []) (sym (eqb-true b 10 is))
-last_byte b false is = refl
-
-earlier_byte : (b : ℕ) (ls : List (List ℕ)) (rest : List ℕ) → 1 ≤ length ls → ended ls ≡ rest → (v : Bool) → eqb b 10 ≡ v → ended (cond v ([] ∷ ls) (front b ls)) ≡ b ∷ rest
-earlier_byte b ls rest some e true is = λ i. sym (eqb-true b 10 is) i ∷ e i
-earlier_byte b ls rest some e false is = ended_front b ls some ∙ ap (λ l. b ∷ l) e
-
 rejoin : (text : List ℕ) → ended (lines text) ≡ closed text
 rejoin [] = refl
-rejoin (b ∷ []) = last_byte b (eqb b 10) refl
+rejoin (b ∷ []) = grind (arith, nat_tests)
 rejoin (b ∷ c ∷ cs) =
     let some : 1 ≤ length (lines (c ∷ cs)) = rw (lines_first (c ∷ cs) (omega arith)) (omega arith) in
-    earlier_byte b (lines (c ∷ cs)) (closed (c ∷ cs)) some (rejoin (c ∷ cs)) (eqb b 10) refl
+    let rest = rejoin (c ∷ cs) in
+    let first = ended_front b (lines (c ∷ cs)) some in
+    grind (arith, nat_tests)
 
 unbroken : (text : List ℕ) → AllByRecursion (Without 10) (lines text)
 unbroken [] = tt
@@ -42,20 +60,20 @@ lines_right text = (rejoin text, unbroken text)
 -- a line that a newline ends
 first_of : (line rest : List ℕ) → Without 10 line → first_line (line ++ 10 ∷ rest) ≡ line
 first_of [] rest apart = refl
-first_of (b ∷ bs) rest apart = no_mark 10 b _ _ apart.0 ∙ ap (λ l. b ∷ l) (first_of bs rest apart.1)
+first_of (b ∷ bs) rest apart = let more = first_of bs rest apart.1 in grind (arith, nat_tests)
 
 after_of : (line rest : List ℕ) → Without 10 line → after_line (line ++ 10 ∷ rest) ≡ rest
 after_of [] rest apart = refl
-after_of (b ∷ bs) rest apart = no_mark 10 b _ _ apart.0 ∙ after_of bs rest apart.1
+after_of (b ∷ bs) rest apart = let more = after_of bs rest apart.1 in grind (arith, nat_tests)
 
 -- a last line that no newline ends
 first_only : (line : List ℕ) → Without 10 line → first_line line ≡ line
 first_only [] apart = refl
-first_only (b ∷ bs) apart = no_mark 10 b _ _ apart.0 ∙ ap (λ l. b ∷ l) (first_only bs apart.1)
+first_only (b ∷ bs) apart = let more = first_only bs apart.1 in grind (arith, nat_tests)
 
 after_only : (line : List ℕ) → Without 10 line → after_line line ≡ []
 after_only [] apart = refl
-after_only (b ∷ bs) apart = no_mark 10 b _ _ apart.0 ∙ after_only bs apart.1
+after_only (b ∷ bs) apart = let more = after_only bs apart.1 in grind (arith, nat_tests)
 
 -- a text that is not empty, cut at its first newline, or else at its end
 module _ (text : List ℕ) (some : 1 ≤ length text) where

@@ -5,25 +5,23 @@ use Rattle.std.specs.List.{AllByRecursion}
 use Rattle.std.proofs.ByRecursion.{All-weaker}
 use Rattle.std.proofs.lemmas.Bool.{eqb-true}
 use Rattle.script.specs.declared.commands.Command.{Command}
-use Rattle.script.specs.declared.commands.Command.TheVariants as said
-use Rattle.script.specs.declared.orders.Order.{Order}
-use Rattle.script.specs.declared.orders.Order.TheVariants.{Begin, End, Turn, Fail, Avail}
+use Rattle.script.specs.declared.commands.Command.TheVariants.{Begin, End, Turn, Fail, Avail}
 use Rattle.script.specs.Bytes.{Without}
 use Rattle.script.specs.Words.{words, spaced, Word}
 use Rattle.script.specs.Numbers.{decimal}
-use Rattle.script.specs.Commands.{letter, arguments, Says}
+use Rattle.script.specs.Commands.{Spoken, letter, arguments, Says}
 use Rattle.script.specs.Orders.{both, order_by, order_in, order_of, OrdersRight}
 use Rattle.script.proofs.WordLaws.{words_spaced, words_right}
 
-no_space : (c : Command) → letter c ≡ 32 → ⊥
-no_space (said.Begin line stamp) e = omega arith
-no_space (said.End line stamp) e = omega arith
-no_space said.Turn e = omega arith
-no_space (said.Fail side) e = omega arith
-no_space (said.Avail side) e = omega arith
+no_space : (c : Spoken) → letter c ≡ 32 → ⊥
+no_space (Begin line stamp) e = omega arith
+no_space (End line stamp) e = omega arith
+no_space Turn e = omega arith
+no_space (Fail side) e = omega arith
+no_space (Avail side) e = omega arith
 
 -- a line that says a command gives the command's order
-order_said : (line : List ℕ) (c : Command) → Says line c → order_of line ≡ order_by (letter c) (arguments c)
+order_said : (line : List ℕ) (c : Spoken) → Says line c → order_of line ≡ order_by (letter c) (arguments c)
 order_said line c says =
     let solid = All-weaker Word (Without 32) (λ w word. word.1) (arguments c) says.0 in
     ap order_in (ap words says.1 ∙ words_spaced ((letter c ∷ []) ∷ arguments c) (omega arith) ((no_space c, tt), solid))
@@ -33,16 +31,16 @@ no_number : (a : List ℕ) → Without 32 a → (Word a → ⊥) → decimal a �
 no_number [] solid no_word = refl
 no_number (b ∷ bs) solid no_word = absurd (no_word (omega arith, solid))
 
-both_none : (order : ℕ → ℕ → Order) (n : Option ℕ) → both order n None ≡ None
+both_none : (order : ℕ → ℕ → Command ℕ) (n : Option ℕ) → both order n None ≡ None
 both_none order None = refl
 both_none order (Some n) = refl
 
-no_numbers : (order : ℕ → ℕ → Order) (a b : List ℕ) → Without 32 a → Without 32 b → (Word a → Word b → ⊥) → both order (decimal a) (decimal b) ≡ None
+no_numbers : (order : ℕ → ℕ → Command ℕ) (a b : List ℕ) → Without 32 a → Without 32 b → (Word a → Word b → ⊥) → both order (decimal a) (decimal b) ≡ None
 no_numbers order [] b solid more no_words = refl
 no_numbers order (x ∷ xs) b solid more no_words =
     ap (both order (decimal (x ∷ xs))) (no_number b more (no_words (omega arith, solid))) ∙ both_none order (decimal (x ∷ xs))
 
-neither : (v w : Bool) (x y : Option Order) → (v ≡ true → x ≡ None) → (w ≡ true → y ≡ None) → cond v x (cond w y None) ≡ None
+neither : (v w : Bool) (x y : Option (Command ℕ)) → (v ≡ true → x ≡ None) → (w ≡ true → y ≡ None) → cond v x (cond w y None) ≡ None
 neither true w x y first second = first refl
 neither false true x y first second = second refl
 neither false false x y first second = refl
@@ -52,21 +50,21 @@ abbrev to : List ℕ → Bor (List ℕ)
 to bytes = record { ref_ptr = (0, 0); now = bytes }
 
 -- no command, no order
-module _ (line : List ℕ) (unsaid : (c : Command) → Says line c → ⊥) where
-  not_by : (c : Command) (l : ℕ) → spaced ((l ∷ []) ∷ arguments c) ≡ line → eqb l (letter c) ≡ true → AllByRecursion Word (arguments c) → ⊥
+module _ (line : List ℕ) (unsaid : (c : Spoken) → Says line c → ⊥) where
+  not_by : (c : Spoken) (l : ℕ) → spaced ((l ∷ []) ∷ arguments c) ≡ line → eqb l (letter c) ≡ true → AllByRecursion Word (arguments c) → ⊥
   not_by c l is same proper = unsaid c (proper, sym is ∙ ap (λ x. spaced ((x ∷ []) ∷ arguments c)) (eqb-true l (letter c) same))
 
   unsaid_in : (pieces : List (List ℕ)) → spaced pieces ≡ line → AllByRecursion (Without 32) pieces → order_in pieces ≡ None
   unsaid_in [] is solid = refl
   unsaid_in ([] ∷ more) is solid = refl
   unsaid_in ((l ∷ m ∷ ms) ∷ more) is solid = refl
-  unsaid_in ((l ∷ []) ∷ []) is solid = neither (eqb l 116) false (Some Turn) None (λ e. absurd (not_by said.Turn l is e tt)) (λ e. refl)
+  unsaid_in ((l ∷ []) ∷ []) is solid = neither (eqb l 116) false (Some Turn) None (λ e. absurd (not_by Turn l is e tt)) (λ e. refl)
   unsaid_in ((l ∷ []) ∷ a ∷ []) is solid =
-      let none : (c : Command) → arguments c ≡ a ∷ [] → eqb l (letter c) ≡ true → decimal a ≡ None = λ c same e. no_number a solid.1.0 (λ w. not_by c l (rw same is) e (rw same (w, tt))) in
-      neither (eqb l 102) (eqb l 118) (option_map Fail (decimal a)) (option_map Avail (decimal a)) (λ e. ap (option_map Fail) (none (said.Fail (to a)) refl e)) (λ e. ap (option_map Avail) (none (said.Avail (to a)) refl e))
+      let none : (c : Spoken) → arguments c ≡ a ∷ [] → eqb l (letter c) ≡ true → decimal a ≡ None = λ c same e. no_number a solid.1.0 (λ w. not_by c l (rw same is) e (rw same (w, tt))) in
+      neither (eqb l 102) (eqb l 118) (option_map Fail (decimal a)) (option_map Avail (decimal a)) (λ e. ap (option_map Fail) (none (Fail (to a)) refl e)) (λ e. ap (option_map Avail) (none (Avail (to a)) refl e))
   unsaid_in ((l ∷ []) ∷ a ∷ b ∷ []) is solid =
-      let none : (order : ℕ → ℕ → Order) (c : Command) → arguments c ≡ a ∷ b ∷ [] → eqb l (letter c) ≡ true → both order (decimal a) (decimal b) ≡ None = λ order c same e. no_numbers order a b solid.1.0 solid.1.1.0 (λ v w. not_by c l (rw same is) e (rw same (v, (w, tt)))) in
-      neither (eqb l 98) (eqb l 101) (both Begin (decimal a) (decimal b)) (both End (decimal a) (decimal b)) (none Begin (said.Begin (to a) (to b)) refl) (none End (said.End (to a) (to b)) refl)
+      let none : (order : ℕ → ℕ → Command ℕ) (c : Spoken) → arguments c ≡ a ∷ b ∷ [] → eqb l (letter c) ≡ true → both order (decimal a) (decimal b) ≡ None = λ order c same e. no_numbers order a b solid.1.0 solid.1.1.0 (λ v w. not_by c l (rw same is) e (rw same (v, (w, tt)))) in
+      neither (eqb l 98) (eqb l 101) (both Begin (decimal a) (decimal b)) (both End (decimal a) (decimal b)) (none Begin (Begin (to a) (to b)) refl) (none End (End (to a) (to b)) refl)
   unsaid_in ((l ∷ []) ∷ a ∷ b ∷ c ∷ more) is solid = refl
 
   order_unsaid : order_of line ≡ None

@@ -1,28 +1,21 @@
 -- What is cut at a mark, put together again.
-use Rattle.std.proofs.Common.{◌≡◌, ℕ, ◌+◌, ◌-◌, ◌<◌, ◌≤◌, Bool, true, false, cond, eqb, List, [], ◌∷◌, ◌++◌, length, get_or, take, drop, sym, ap, ◌∙◌, arith, take-append-drop}
-use Rattle.std.proofs.lemmas.List.{drop_more, take_rest}
-use Rattle.std.proofs.lemmas.Bool.{eqb-false, ne_eqb, cond-false}
+use Rattle.std.proofs.Common.{◌≡◌, ℕ, ◌+◌, ◌-◌, ◌<◌, ◌≢◌, Bool, true, false, cond, eqb, List, [], ◌∷◌, ◌++◌, length, get_or, take, drop, sym, ap, ◌∙◌, arith, take-append-drop}
+use Rattle.std.proofs.lemmas.List.{drop_more, take_rest, get_or-take, length-take}
+use Rattle.std.proofs.ByRecursion.{All-from_get_or}
+use Rattle.std.proofs.lemmas.Bool.{eqb-false}
 use Rattle.std.specs.List.{AllByRecursion}
 use Rattle.script.specs.Bytes.{Without, front}
 
--- the bytes up to a mark, the mark and the bytes after it
-pub parted : (bytes : List ℕ) (mark i : ℕ) → i < length bytes → get_or bytes i 0 ≡ mark → bytes ≡ take (i - 0) bytes ++ mark ∷ take (length bytes - (i + 1)) (drop (i + 1) bytes)
-parted bytes mark i within is =
-    let off : i ≡ i - 0 = omega arith in
-    let back : drop i bytes ≡ mark ∷ take (length bytes - (i + 1)) (drop (i + 1) bytes) = drop_more bytes i 0 within ∙ (λ j. is j ∷ sym (take_rest bytes (i + 1)) j) in
-    sym (take-append-drop i bytes) ∙ (λ j. take (off j) bytes ++ back j)
-
--- a byte that is no mark
-pub no_mark : {A : Type 0} (mark b : ℕ) (x y : A) → (b ≡ mark → ⊥) → cond (eqb b mark) x y ≡ y
-no_mark mark b x y apart = cond-false (eqb b mark) x y (ne_eqb b mark apart)
+-- the bytes up to the first mark, the mark and the bytes after it
+pub parted : (bytes : List ℕ) (mark i : ℕ) → i < length bytes → get_or bytes i 0 ≡ mark → ((k : ℕ) → k < i → get_or bytes k 0 ≢ mark) → Without mark (take i bytes) × (bytes ≡ take i bytes ++ mark ∷ take (length bytes - (i + 1)) (drop (i + 1) bytes))
+parted bytes mark i within is before =
+    let back : drop i bytes ≡ mark ∷ take (length bytes - (i + 1)) (drop (i + 1) bytes) = drop_more bytes i 0 within ∙ (λ j. is j ∷ sym (take_rest bytes (i + 1)) j) in (
+      All-from_get_or (λ b. b ≢ mark) (take i bytes) 0 (λ k short. let below : k < i = omega (arith, length-take {A = ℕ}) in rw get_or-take (before k below)),
+      sym (take-append-drop i bytes) ∙ ap (λ l. take i bytes ++ l) back,
+    )
 
 -- a byte before pieces that hold no mark: it parts them, or stands in front of the first
 pub byte_without : (mark b : ℕ) (pieces : List (List ℕ)) → AllByRecursion (Without mark) pieces → (v : Bool) → eqb b mark ≡ v → AllByRecursion (Without mark) (cond v ([] ∷ pieces) (front b pieces))
 byte_without mark b pieces all true is = (tt, all)
 byte_without mark b [] all false is = ((eqb-false b mark is, tt), tt)
 byte_without mark b (piece ∷ more) all false is = ((eqb-false b mark is, all.0), all.1)
-
--- bytes are the first of them and the others, as `[first, others @ ..]` takes them apart
-pub first_and_others : (bytes : List ℕ) → 1 ≤ length bytes → bytes ≡ get_or bytes 0 0 ∷ take (length bytes - 1) (drop 1 bytes)
-first_and_others [] some = absurd (omega arith)
-first_and_others (b ∷ bs) some = ap (λ l. b ∷ l) (sym (take_rest (b ∷ bs) 1))

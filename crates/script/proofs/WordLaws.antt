@@ -1,29 +1,31 @@
 -- The law of words, and the words after a letter.
-use Rattle.std.proofs.Common.{◌≡◌, ℕ, ◌≤◌, Bool, true, false, cond, eqb, List, [], ◌∷◌, ◌++◌, length, drop, sym, refl, ap, ◌∙◌, subst, arith}
+use Rattle.std.proofs.Common.{◌≡◌, ℕ, ◌≤◌, eqb, List, [], ◌∷◌, ◌++◌, length, drop, sym, refl, ap, ◌∙◌, subst, arith}
 use Rattle.std.specs.List.{AllByRecursion}
-use Rattle.std.proofs.lemmas.Bool.{eqb-true}
+use Rattle.std.proofs.lemmas.Bool.Decides.{nat_tests}
 use Rattle.script.specs.Bytes.{Without, front}
 use Rattle.script.specs.Words.{words, spaced, WordsRight, Word, EndsWith}
-use Rattle.script.proofs.Pieces.{no_mark, byte_without}
+use Rattle.script.proofs.Pieces.{byte_without}
+
+front_some : (b : ℕ) (ws : List (List ℕ)) → 1 ≤ length (front b ws)
+front_some b [] = omega arith
+front_some b (w ∷ ws) = omega arith
 
 words_some : (line : List ℕ) → 1 ≤ length (words line)
 words_some [] = omega arith
-words_some (b ∷ bs) = elim (eqb b 32) as (λ v. 1 ≤ length (cond v ([] ∷ words bs) (front b (words bs)))) [ true ↦ omega arith | false ↦ front_some b (words bs) ]
-  where
-    front_some : (b : ℕ) (ps : List (List ℕ)) → 1 ≤ length (front b ps)
-    front_some b [] = omega arith
-    front_some b (p ∷ ps) = omega arith
+words_some (b ∷ bs) = let some = front_some b (words bs) in grind (arith, nat_tests)
 
--- each byte of a line, in front of the words of what follows
-spaced_byte : (b : ℕ) (ws : List (List ℕ)) (v : Bool) → 1 ≤ length ws → eqb b 32 ≡ v → spaced (cond v ([] ∷ ws) (front b ws)) ≡ b ∷ spaced ws
-spaced_byte b [] v some is = absurd (omega arith)
-spaced_byte b (w ∷ ws) true some is = ap (λ x. x ∷ spaced (w ∷ ws)) (sym (eqb-true b 32 is))
-spaced_byte b (w ∷ []) false some is = refl
-spaced_byte b (w ∷ v ∷ vs) false some is = refl
+-- a byte in front of the words of what follows, and a space in front of them
+spaced_front : (b : ℕ) (ws : List (List ℕ)) → 1 ≤ length ws → (spaced (front b ws) ≡ b ∷ spaced ws) × (spaced ([] ∷ ws) ≡ 32 ∷ spaced ws)
+spaced_front b [] some = absurd (omega arith)
+spaced_front b (w ∷ []) some = (refl, refl)
+spaced_front b (w ∷ v ∷ vs) some = (refl, refl)
 
 rejoin : (line : List ℕ) → spaced (words line) ≡ line
 rejoin [] = refl
-rejoin (b ∷ bs) = spaced_byte b (words bs) (eqb b 32) (words_some bs) refl ∙ ap (λ l. b ∷ l) (rejoin bs)
+rejoin (b ∷ bs) =
+    let more = rejoin bs in
+    let first = spaced_front b (words bs) (words_some bs) in
+    grind (arith, nat_tests)
 
 solid : (line : List ℕ) → AllByRecursion (Without 32) (words line)
 solid [] = (tt, tt)
@@ -32,11 +34,11 @@ solid (b ∷ bs) = byte_without 32 b (words bs) (solid bs) (eqb b 32) refl
 -- a word that a space ends, and one that the line ends
 words_first : (w rest : List ℕ) → Without 32 w → words (w ++ 32 ∷ rest) ≡ w ∷ words rest
 words_first [] rest apart = refl
-words_first (b ∷ bs) rest apart = no_mark 32 b _ _ apart.0 ∙ ap (front b) (words_first bs rest apart.1)
+words_first (b ∷ bs) rest apart = let more = words_first bs rest apart.1 in grind (arith, nat_tests)
 
 words_last : (w : List ℕ) → Without 32 w → words w ≡ w ∷ []
 words_last [] apart = refl
-words_last (b ∷ bs) apart = no_mark 32 b _ _ apart.0 ∙ ap (front b) (words_last bs apart.1)
+words_last (b ∷ bs) apart = let more = words_last bs apart.1 in grind (arith, nat_tests)
 
 pub words_spaced : (pieces : List (List ℕ)) → 1 ≤ length pieces → AllByRecursion (Without 32) pieces → words (spaced pieces) ≡ pieces
 words_spaced [] some all = absurd (omega arith)

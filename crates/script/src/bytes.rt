@@ -5,10 +5,6 @@ ghost use Rattle.script.specs.Bytes.{Without};
 pub fn split_once(bytes: &[u8], mark: u8) -> Option<(&[u8], &[u8])>
     ensures { MatchOption result (Without mark bytes.now) (λ p. Without mark p.0.now × (bytes.now ≡ p.0.now ++ mark ∷ p.1.now)) }
 {
-    for (place, byte) in bytes.iter().enumerate() {
-        if *byte == mark {
-            return Some((&bytes[0..place], &bytes[place + 1..]));
-        }
-    }
-    None
+    let place = bytes.iter().position(|byte| *byte == mark)?;
+    Some((&bytes[..place], &bytes[place + 1..]))
 }

@@ -9,6 +9,6 @@ pub mod orders;
 mod words;
 
 pub use commands::{Command, read_command};
-pub use lines::split_line;
+pub use lines::{Lines, split_line};
 pub use numbers::read_number;
 pub use orders::{Order, read_order};

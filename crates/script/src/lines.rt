@@ -1,5 +1,6 @@
-ghost use Rattle.std.specs.Prelude.{◌≡◌, [], MatchOption};
-ghost use Rattle.script.specs.Lines.{Cut, LinesRight};
+ghost use Rattle.std.specs.Prelude.{◌≡◌, ◌≤◌, [], length, MatchOption};
+ghost use Rattle.std.specs.Iterator.{YieldsFirstRef, item_count};
+ghost use Rattle.script.specs.Lines.{Cut, LinesRight, left, lines};
 
 use crate::bytes::split_once;
 
@@ -13,4 +14,33 @@ pub fn split_line(text: &[u8]) -> Option<(&[u8], &[u8])>
     }
     let unended = text.split_at(text.len());
     split_once(text, b'\n').or(Some(unended))
+}
+
+// The lines of a text, one after another, without their newlines.
+#[derive(Drop)]
+pub struct Lines<'a> {
+    rest: &'a [u8],
+}
+
+impl<'a> Lines<'a> {
+    pub fn new(text: &'a [u8]) -> Self
+        ensures rest { left result ≡ lines text.now }
+        ensures few { length (left result) ≤ length text.now }
+    {
+        Lines { rest: text }
+    }
+}
+
+impl<'a> Iterator for Lines<'a> {
+    type Item = &'a [u8];
+
+    ghost next_gives = { YieldsFirstRef left };
+
+    ghost remaining = { item_count left };
+
+    fn next(&mut self) -> Option<&'a [u8]> {
+        let (line, rest) = split_line(self.rest)?;
+        self.rest = rest;
+        Some(line)
+    }
 }

@@ -7,16 +7,9 @@ use crate::commands::{Command, read_command};
 use crate::numbers::read_number;
 
 // A command with its words read as numbers.
-#[derive(Clone, Copy, PartialEq, Debug)]
-pub enum Order {
-    Begin { line: u32, stamp: u32 },
-    End { line: u32, stamp: u32 },
-    Turn,
-    Fail { side: u32 },
-    Avail { side: u32 },
-}
+pub type Order = Command<u32>;
 
-impl Command<'_> {
+impl Command<&[u8]> {
     // The order, where each word is a number.
     pub fn order(&self) -> Option<Order>
         ensures { result ≡ order_by (letter self.now) (arguments self.now) }
