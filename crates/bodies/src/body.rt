@@ -8,6 +8,8 @@ ghost use Rattle.bodies.specs.Weights.{longest_body};
 pub struct WrongLength;
 
 // A body kind: a fixed length of 1 to 40 bytes, a writing and a reading.
+// Each kind names its fields once in writing (`put`) and once in reading (`Number::take`). One implementation for all, over
+// tuples of fields, is no plainer: a part needs a length, and the sum of two may pass the largest number of the machine.
 pub trait Body: Copy {
     // the length of every writing
     ghost size: { ℕ };

@@ -11,6 +11,7 @@ pub struct Call {
     pub seconds: u32,
 }
 
+// Field by field, as `Body` says why.
 impl Body for Call {
     ghost size = { 8 };
 

@@ -12,6 +12,7 @@ pub struct Charge {
     pub seconds: u64,
 }
 
+// Field by field, as `Body` says why.
 impl Body for Charge {
     ghost size = { 16 };
 

@@ -45,6 +45,7 @@ pub struct Event {
     pub kind: EventKind,
 }
 
+// Field by field, as `Body` says why.
 impl Body for Event {
     ghost size = { 9 };
 
@@ -72,6 +73,7 @@ impl Body for Event {
     fn read(from: &[u8]) -> Option<Event> {
         let (line, rest) = u32::take(from)?;
         let (stamp, rest) = u32::take(rest)?;
+        // A pattern, as no method of a slice takes a last byte and asks that none follows.
         let [kind] = rest else {
             return None;
         };

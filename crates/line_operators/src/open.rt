@@ -12,6 +12,7 @@ pub struct Open {
     pub stamp: u32,
 }
 
+// Field by field, as `Body` says why.
 impl Body for Open {
     ghost size = { 8 };
 

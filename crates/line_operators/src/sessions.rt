@@ -44,6 +44,8 @@ impl Sessions {
     }
 }
 
+// A line for each call that the table answers, as in Totals: one operator over any table would need a trait of what a value
+// does to it, and the trait's implementations would have these lines.
 impl Operator for Sessions {
     type In = Event;
 

@@ -25,6 +25,7 @@ fn raise(charge: Option<Charge>, call: Call) -> Charge
     }
 }
 
+// A line for each call that the table answers, as Sessions says why.
 impl Operator for Totals {
     type In = Call;
 

@@ -17,6 +17,7 @@ const DATA_LENGTH: usize = 502;
 #[derive(Drop)]
 pub struct PackedLink {
     bytes: ArrayVec<u8, DATA_LENGTH>,
+    // noted, as counting them by walking the bytes would take longer the more wait
     count: usize,
     ghost spells: { spelling (spelled bytes.items) ≡ bytes.items },
     ghost counts: { count ≡ length (spelled bytes.items) },

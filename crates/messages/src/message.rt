@@ -38,7 +38,8 @@ pub enum Message<'a> {
     Reverse,
 }
 
-// The messages without a body, which borrow from nothing.
+// The messages without a body, which borrow from nothing. Each is a case of the enum and no more: one function over the case would be
+// that case again.
 impl Message<'static> {
     pub fn ack(number: u32) -> Message<'static>
         ensures { content_of result ≡ Ack number }
@@ -158,9 +159,7 @@ impl<'a> Message<'a> {
         ensures one { OneMessage }
         ensures exact { MatchOption result ((m : Content) (more : List ℕ) → Short m → message_bytes m ++ more ≢ bytes.now) (λ p. Short (content_of p.0) × (message_bytes (content_of p.0) ++ p.1.now ≡ bytes.now)) }
     {
-        let [kind, length, rest @ ..] = bytes else {
-            return None;
-        };
+        let ([kind, length], rest) = bytes.split_first_chunk::<2>()?;
         let kind = Kind::try_from(*kind).ok()?;
         let length = usize::from(*length);
         let (version, rest) = u16::take(rest)?;

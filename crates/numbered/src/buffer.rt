@@ -24,7 +24,8 @@ fn write_at<B: Body>(table: &mut [u8], at: usize, value: B)
     let _ = value.write(&mut table[at..at + B::size()]);
 }
 
-// The buffer of values of one body kind that these numbers and a table of bytes make.
+// The buffer of values of one body kind that these numbers and a table of bytes make. The table is lent to each call, since its
+// holder has it among its own fields; so it is no field here.
 impl Numbers {
     // What the buffer weighs: values as header and body, bare numbers as headers.
     pub fn weight<B: Body>(&self) -> usize

@@ -1,4 +1,5 @@
-// An entry of a buffer, with its body where it lies.
+// An entry of a buffer, with its body where it lies. How long that is stands in the contract of each call that shows one (`OfSize`):
+// as a fact of the type it would need a type parameter for the kind, of which the entry has no value.
 #[derive(Clone, Copy)]
 pub struct Entry<'a> {
     pub number: u32,

@@ -43,6 +43,9 @@ pub trait Operator: Drop {
         ensures after { state self.new ≡ next (state self.old) value }
         ensures given { listed result ≡ gives (state self.old) value };
 
+    // The next three promise something of lengths below 4,294,967,295 alone: as a fact of every make it would shut out pipes
+    // whose parts are as long as that.
+
     // How many bytes the state writes.
     fn state_length(&self) -> usize
         ensures { longest < unbounded → result ≡ length (written (state self.now)) };

@@ -21,6 +21,7 @@ impl<F: Operator, S: Operator<In = F::Out>> Pipe<F, S> {
         ensures between { listed result.0 ≡ F.Operator.gives (F.Operator.state self.old.front) value }
         ensures given { listed result.1 ≡ given_all S.Operator.next S.Operator.gives (S.Operator.state self.old.back) (F.Operator.gives (F.Operator.state self.old.front) value) }
     {
+        // Not `and_then`: of a closure that changes `back` nothing is known once it ran.
         let Some(between) = self.front.take(value) else {
             return (None, None);
         };
