@@ -33,6 +33,11 @@ module _ {E : Type 0} (rank : E → ℕ) (sound : E → Bool) where
       let p = and_parts (sound x) (list_all sound xs) fit in
       from_parts rank sound n x xs (record { fit = p.0; least = least x (omega arith); others = orderly_from (suc (rank x)) xs p.1 (λ d l. up 0 d (omega arith)) (λ j d l. up (suc j) d (omega arith)) })
 
+  all_sound : (xs : List E) (j : ℕ) (d : E) → list_all sound xs ≡ true → j < length xs → sound (get_or xs j d) ≡ true
+  all_sound [] j d fit l = absurd (omega arith)
+  all_sound (x ∷ xs) zero d fit l = (and_parts (sound x) (list_all sound xs) fit).0
+  all_sound (x ∷ xs) (suc j) d fit l = all_sound xs j d (and_parts (sound x) (list_all sound xs) fit).1 (omega arith)
+
   -- rows of which one is not sound are not in order
   pub not_sound : (xs : List E) → list_all sound xs ≡ false → false ≡ orderly rank sound 0 xs
   not_sound xs bad =
@@ -42,32 +47,40 @@ module _ {E : Type 0} (rank : E → ℕ) (sound : E → Bool) where
       ]
 
   -- sound rows are in order just where each is below the next
-  pub in_order_is : (xs : List E) (below : E → E → Bool) → ((x y : E) → below x y ≡ ltb (rank x) (rank y)) → list_all sound xs ≡ true → (r : Bool) → IsAllAdjacentAnswer (λ x y b. b ≡ below x y) xs r → r ≡ orderly rank sound 0 xs
-  in_order_is xs below by fit true up = sym (orderly_from 0 xs fit (λ d l. omega arith) (λ j d l. ltb-true (rank (get_or xs j d)) (rank (get_or xs (suc j) d)) (sym (by (get_or xs j d) (get_or xs (suc j) d)) ∙ sym (rw add-one at (up j d (omega arith))))))
+  pub in_order_is : (xs : List E) (below : E → E → Bool) → ((x y : E) → sound x ≡ true → sound y ≡ true → below x y ≡ ltb (rank x) (rank y)) → list_all sound xs ≡ true → (r : Bool) → IsAllAdjacentAnswer (λ x y b. b ≡ below x y) xs r → r ≡ orderly rank sound 0 xs
+  in_order_is xs below by fit true up =
+      sym (orderly_from 0 xs fit (λ d l. omega arith)
+      (λ j d l.
+      let a = get_or xs j d in
+      let b = get_or xs (suc j) d in
+      ltb-true (rank a) (rank b) (sym (by a b (all_sound xs j d fit (omega arith)) (all_sound xs (suc j) d fit l)) ∙ sym (rw add-one at (up j d (omega arith))))))
   in_order_is [] below by fit false (k, lt, down) = absurd (omega arith)
   in_order_is (x ∷ xs) below by fit false (k, lt, down) =
       elim (cases_Bool (orderly rank sound 0 (x ∷ xs))) [
         | inl up ↦
             let a = get_or (x ∷ xs) k x in
             let b = get_or (x ∷ xs) (k + 1) x in
-            let le = ltb-false (rank a) (rank b) (sym (by a b) ∙ sym (down x)) in
+            let le = ltb-false (rank a) (rank b) (sym (by a b (all_sound (x ∷ xs) k x fit (omega arith)) (all_sound (x ∷ xs) (k + 1) x fit lt)) ∙ sym (down x)) in
             absurd (omega (arith, orderly_rises 0 k (k + 1) (x ∷ xs) x up (omega arith) lt))
         | inr unordered ↦ sym unordered
       ]
 
-  module _ (k : ℕ) (ord : E → Ordering) (by : (x : E) → ord x ≡ nat_cmp (rank x) k) (xs : List E) (up : orderly rank sound 0 xs ≡ true) where
+  module _ (k : ℕ) (ord : E → Ordering) (by : (x : E) → sound x ≡ true → ord x ≡ nat_cmp (rank x) k) (xs : List E) (up : orderly rank sound 0 xs ≡ true) where
+    ord_is : (j : ℕ) (d : E) → j < length xs → ord (get_or xs j d) ≡ nat_cmp (rank (get_or xs j d)) k
+    ord_is j d l = by (get_or xs j d) (all_sound xs j d (orderly_sound 0 xs up) l)
+
     answers_rise : IsNonDecreasingBy (λ x. ordering_index (ord x)) xs
     answers_rise i j d le lt =
         let rise : rank (get_or xs i d) ≤ rank (get_or xs j d) = grind (arith, orderly_rises 0 i j xs d up, λ (same : i ≡ j). ap (λ n. rank (get_or xs n d)) same) in
-        grind (arith, nat_tests, by (get_or xs i d), by (get_or xs j d))
+        grind (arith, nat_tests, ord_is i d (omega arith), ord_is j d lt)
 
     -- a search by halves answers the key's place
     pub searched : (r : Result ℕ ℕ) → IsSearchInRange r (length xs) → IsBinarySearchResult ord xs r → Place rank k xs r
     searched (Ok i) within equal =
-        let here : (d : E) → rank (get_or xs i d) ≡ k = λ d. ranked (rank (get_or xs i d)) k _ (sym (equal d) ∙ by (get_or xs i d)) in
+        let here : (d : E) → rank (get_or xs i d) ≡ k = λ d. ranked (rank (get_or xs i d)) k _ (sym (equal d) ∙ ord_is i d within) in
         (within, λ j d lt. let h = here d in let r = orderly_rises 0 j i xs d up lt within in omega arith, here)
     searched (Err i) within parted = (
       within,
-      λ j d lt. ranked (rank (get_or xs j d)) k _ (sym ((parted answers_rise).0 j d (omega arith) lt) ∙ by (get_or xs j d)),
-      λ d lt. ranked (rank (get_or xs i d)) k _ (sym ((parted answers_rise).1 i d (omega arith) lt) ∙ by (get_or xs i d)),
+      λ j d lt. ranked (rank (get_or xs j d)) k _ (sym ((parted answers_rise).0 j d (omega arith) lt) ∙ ord_is j d (omega arith)),
+      λ d lt. ranked (rank (get_or xs i d)) k _ (sym ((parted answers_rise).1 i d (omega arith) lt) ∙ ord_is i d lt),
     )

@@ -13,7 +13,7 @@ returns-then-all g c =
     let all = all_from_yields_List g.E.Row.sound _ _ _ c.all.ensures.ran (YieldsList-from_slice c.args.rows.now c.iter.ensures.rest) (λ x b q k. search rules) in
     let below = λ (a : g.row.E.Denot) (b : g.row.E.Denot). partial_lt g.E.Key.PartialOrd.partial_cmp (key a) (key b) in
     in_order_is (λ e. g.E.Row.rank (key e)) g.E.Row.sound c.args.rows.now below
-    (λ x y. grind (arith, nat_tests, g.met.E.Key.Ord.matches_partial_cmp (key x) (key y), g.met.E.Row.ranked (key x) (key y)))
+    (λ x y a b. grind (arith, nat_tests, g.met.E.Key.Ord.matches_partial_cmp (key x) (key y), g.met.E.Row.ranked (key x) (key y) (g.met.E.Row.keyed x a) (g.met.E.Row.keyed y b)))
     (sym all ∙ c.if-all.true)
     c.is_sorted_by.result (c.is_sorted_by.ensures.cases below (answers_always _ _ _ (λ f a r f' called. search rules)))
 
