@@ -3,6 +3,7 @@ use Rattle.std.proofs.Common.{◌≡◌, ℕ, zero, suc, ◌+◌, ◌<◌, ◌�
 use Rattle.std.proofs.lemmas.Bool.{and_from, and_parts, ltb-true, ltb-false, cases_Bool, both_ways}
 use Rattle.std.proofs.lemmas.Bool.Decides.{nat_tests}
 use Rattle.std.proofs.lemmas.Cmp.{ranked}
+use Rattle.std.proofs.lemmas.List.Sums.{AllPass-from_list_all}
 use Rattle.std.specs.List.{IsAllAdjacentAnswer, list_all}
 use Rattle.std.specs.List.Sorted.{IsSearchInRange, IsBinarySearchResult, IsNonDecreasingBy}
 use Rattle.std.specs.Ordering.{nat_cmp, ordering_index}
@@ -33,11 +34,6 @@ module _ {E : Type 0} (rank : E → ℕ) (sound : E → Bool) where
       let p = and_parts (sound x) (list_all sound xs) fit in
       from_parts rank sound n x xs (record { fit = p.0; least = least x (omega arith); others = orderly_from (suc (rank x)) xs p.1 (λ d l. up 0 d (omega arith)) (λ j d l. up (suc j) d (omega arith)) })
 
-  all_sound : (xs : List E) (j : ℕ) (d : E) → list_all sound xs ≡ true → j < length xs → sound (get_or xs j d) ≡ true
-  all_sound [] j d fit l = absurd (omega arith)
-  all_sound (x ∷ xs) zero d fit l = (and_parts (sound x) (list_all sound xs) fit).0
-  all_sound (x ∷ xs) (suc j) d fit l = all_sound xs j d (and_parts (sound x) (list_all sound xs) fit).1 (omega arith)
-
   -- rows of which one is not sound are not in order
   pub not_sound : (xs : List E) → list_all sound xs ≡ false → false ≡ orderly rank sound 0 xs
   not_sound xs bad =
@@ -53,21 +49,21 @@ module _ {E : Type 0} (rank : E → ℕ) (sound : E → Bool) where
       (λ j d l.
       let a = get_or xs j d in
       let b = get_or xs (suc j) d in
-      ltb-true (rank a) (rank b) (sym (by a b (all_sound xs j d fit (omega arith)) (all_sound xs (suc j) d fit l)) ∙ sym (rw add-one at (up j d (omega arith))))))
+      ltb-true (rank a) (rank b) (sym (by a b (AllPass-from_list_all sound xs fit j d (omega arith)) (AllPass-from_list_all sound xs fit (suc j) d l)) ∙ sym (rw add-one at (up j d (omega arith))))))
   in_order_is [] below by fit false (k, lt, down) = absurd (omega arith)
   in_order_is (x ∷ xs) below by fit false (k, lt, down) =
       elim (cases_Bool (orderly rank sound 0 (x ∷ xs))) [
         | inl up ↦
             let a = get_or (x ∷ xs) k x in
             let b = get_or (x ∷ xs) (k + 1) x in
-            let le = ltb-false (rank a) (rank b) (sym (by a b (all_sound (x ∷ xs) k x fit (omega arith)) (all_sound (x ∷ xs) (k + 1) x fit lt)) ∙ sym (down x)) in
+            let le = ltb-false (rank a) (rank b) (sym (by a b (AllPass-from_list_all sound (x ∷ xs) fit k x (omega arith)) (AllPass-from_list_all sound (x ∷ xs) fit (k + 1) x lt)) ∙ sym (down x)) in
             absurd (omega (arith, orderly_rises 0 k (k + 1) (x ∷ xs) x up (omega arith) lt))
         | inr unordered ↦ sym unordered
       ]
 
   module _ (k : ℕ) (ord : E → Ordering) (by : (x : E) → sound x ≡ true → ord x ≡ nat_cmp (rank x) k) (xs : List E) (up : orderly rank sound 0 xs ≡ true) where
     ord_is : (j : ℕ) (d : E) → j < length xs → ord (get_or xs j d) ≡ nat_cmp (rank (get_or xs j d)) k
-    ord_is j d l = by (get_or xs j d) (all_sound xs j d (orderly_sound 0 xs up) l)
+    ord_is j d l = by (get_or xs j d) (AllPass-from_list_all sound xs (orderly_sound 0 xs up) j d l)
 
     answers_rise : IsNonDecreasingBy (λ x. ordering_index (ord x)) xs
     answers_rise i j d le lt =
