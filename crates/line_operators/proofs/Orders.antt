@@ -3,6 +3,7 @@ use Rattle.std.proofs.Common.{◌≡◌, ℕ, zero, suc, ◌+◌, ◌<◌, ◌�
 use Rattle.std.proofs.lemmas.Bool.{and_from, and_parts, ltb-true, ltb-false, cases_Bool, both_ways}
 use Rattle.std.proofs.lemmas.Bool.Decides.{nat_tests}
 use Rattle.std.proofs.lemmas.Cmp.{ranked}
+use Rattle.std.proofs.lemmas.List.Sums.{AllPass-from_list_all}
 use Rattle.std.specs.List.{IsAllAdjacentAnswer, list_all}
 use Rattle.std.specs.List.Sorted.{IsSearchInRange, IsBinarySearchResult, IsNonDecreasingBy}
 use Rattle.std.specs.Ordering.{nat_cmp, ordering_index}
@@ -42,32 +43,40 @@ module _ {E : Type 0} (rank : E → ℕ) (sound : E → Bool) where
       ]
 
   -- sound rows are in order just where each is below the next
-  pub in_order_is : (xs : List E) (below : E → E → Bool) → ((x y : E) → below x y ≡ ltb (rank x) (rank y)) → list_all sound xs ≡ true → (r : Bool) → IsAllAdjacentAnswer (λ x y b. b ≡ below x y) xs r → r ≡ orderly rank sound 0 xs
-  in_order_is xs below by fit true up = sym (orderly_from 0 xs fit (λ d l. omega arith) (λ j d l. ltb-true (rank (get_or xs j d)) (rank (get_or xs (suc j) d)) (sym (by (get_or xs j d) (get_or xs (suc j) d)) ∙ sym (rw add-one at (up j d (omega arith))))))
+  pub in_order_is : (xs : List E) (below : E → E → Bool) → ((x y : E) → sound x ≡ true → sound y ≡ true → below x y ≡ ltb (rank x) (rank y)) → list_all sound xs ≡ true → (r : Bool) → IsAllAdjacentAnswer (λ x y b. b ≡ below x y) xs r → r ≡ orderly rank sound 0 xs
+  in_order_is xs below by fit true up =
+      sym (orderly_from 0 xs fit (λ d l. omega arith)
+      (λ j d l.
+      let a = get_or xs j d in
+      let b = get_or xs (suc j) d in
+      ltb-true (rank a) (rank b) (sym (by a b (AllPass-from_list_all sound xs fit j d (omega arith)) (AllPass-from_list_all sound xs fit (suc j) d l)) ∙ sym (rw add-one at (up j d (omega arith))))))
   in_order_is [] below by fit false (k, lt, down) = absurd (omega arith)
   in_order_is (x ∷ xs) below by fit false (k, lt, down) =
       elim (cases_Bool (orderly rank sound 0 (x ∷ xs))) [
         | inl up ↦
             let a = get_or (x ∷ xs) k x in
             let b = get_or (x ∷ xs) (k + 1) x in
-            let le = ltb-false (rank a) (rank b) (sym (by a b) ∙ sym (down x)) in
+            let le = ltb-false (rank a) (rank b) (sym (by a b (AllPass-from_list_all sound (x ∷ xs) fit k x (omega arith)) (AllPass-from_list_all sound (x ∷ xs) fit (k + 1) x lt)) ∙ sym (down x)) in
             absurd (omega (arith, orderly_rises 0 k (k + 1) (x ∷ xs) x up (omega arith) lt))
         | inr unordered ↦ sym unordered
       ]
 
-  module _ (k : ℕ) (ord : E → Ordering) (by : (x : E) → ord x ≡ nat_cmp (rank x) k) (xs : List E) (up : orderly rank sound 0 xs ≡ true) where
+  module _ (k : ℕ) (ord : E → Ordering) (by : (x : E) → sound x ≡ true → ord x ≡ nat_cmp (rank x) k) (xs : List E) (up : orderly rank sound 0 xs ≡ true) where
+    ord_is : (j : ℕ) (d : E) → j < length xs → ord (get_or xs j d) ≡ nat_cmp (rank (get_or xs j d)) k
+    ord_is j d l = by (get_or xs j d) (AllPass-from_list_all sound xs (orderly_sound 0 xs up) j d l)
+
     answers_rise : IsNonDecreasingBy (λ x. ordering_index (ord x)) xs
     answers_rise i j d le lt =
         let rise : rank (get_or xs i d) ≤ rank (get_or xs j d) = grind (arith, orderly_rises 0 i j xs d up, λ (same : i ≡ j). ap (λ n. rank (get_or xs n d)) same) in
-        grind (arith, nat_tests, by (get_or xs i d), by (get_or xs j d))
+        grind (arith, nat_tests, ord_is i d (omega arith), ord_is j d lt)
 
     -- a search by halves answers the key's place
     pub searched : (r : Result ℕ ℕ) → IsSearchInRange r (length xs) → IsBinarySearchResult ord xs r → Place rank k xs r
     searched (Ok i) within equal =
-        let here : (d : E) → rank (get_or xs i d) ≡ k = λ d. ranked (rank (get_or xs i d)) k _ (sym (equal d) ∙ by (get_or xs i d)) in
+        let here : (d : E) → rank (get_or xs i d) ≡ k = λ d. ranked (rank (get_or xs i d)) k _ (sym (equal d) ∙ ord_is i d within) in
         (within, λ j d lt. let h = here d in let r = orderly_rises 0 j i xs d up lt within in omega arith, here)
     searched (Err i) within parted = (
       within,
-      λ j d lt. ranked (rank (get_or xs j d)) k _ (sym ((parted answers_rise).0 j d (omega arith) lt) ∙ by (get_or xs j d)),
-      λ d lt. ranked (rank (get_or xs i d)) k _ (sym ((parted answers_rise).1 i d (omega arith) lt) ∙ by (get_or xs i d)),
+      λ j d lt. ranked (rank (get_or xs j d)) k _ (sym ((parted answers_rise).0 j d (omega arith) lt) ∙ ord_is j d (omega arith)),
+      λ d lt. ranked (rank (get_or xs i d)) k _ (sym ((parted answers_rise).1 i d (omega arith) lt) ∙ ord_is i d lt),
     )

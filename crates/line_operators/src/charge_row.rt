@@ -1,4 +1,4 @@
-ghost use Rattle.std.specs.Prelude.{◌≡◌, refl};
+ghost use Rattle.std.specs.Prelude.{◌≡◌, refl, ⊤};
 ghost use Rattle.line_operators.specs.Totals.{charge_line, billed};
 
 use super::table::Row;
@@ -11,7 +11,11 @@ impl Row for Charge {
 
     ghost rank = { λ k. k };
 
-    ghost ranked = { λ a b. refl };
+    ghost within = { λ k. ⊤ };
+
+    ghost keyed = { λ e s. tt };
+
+    ghost ranked = { λ a b _ _. refl };
 
     ghost sound = { billed };
 

@@ -1,4 +1,4 @@
-ghost use Rattle.std.specs.Prelude.{◌≡◌, true, refl};
+ghost use Rattle.std.specs.Prelude.{◌≡◌, true, refl, ⊤};
 ghost use Rattle.line_operators.specs.Opens.{open_bytes, open_value, open_laws};
 
 use super::table::Row;
@@ -44,7 +44,11 @@ impl Row for Open {
 
     ghost rank = { λ k. k };
 
-    ghost ranked = { λ a b. refl };
+    ghost within = { λ k. ⊤ };
+
+    ghost keyed = { λ e s. tt };
+
+    ghost ranked = { λ a b _ _. refl };
 
     ghost sound = { λ o. true };
 

@@ -19,6 +19,9 @@ pub trait Row: Body + Default {
     // the keys' order, as that of numbers
     ghost rank: { Self.Key → ℕ };
 
+    // keys whose numbers are within their types, since a law's numbers have no range
+    ghost within: { Self.Key → Type 0 };
+
     // whether a table may hold it
     ghost sound: { Self → Bool };
 
@@ -28,8 +31,11 @@ pub trait Row: Body + Default {
     fn sound(&self) -> bool
         ensures { result ≡ sound self.now };
 
-    // keys compare as their ranks
-    ghost ranked: { (a b : Self.Key) → Self.Key.cmp a b ≡ nat_cmp (rank a) (rank b) };
+    // a sound row's key is such a key
+    ghost keyed: { (e : Self) → sound e ≡ true → within (key e) };
+
+    // and those compare as their ranks
+    ghost ranked: { (a b : Self.Key) → within a → within b → Self.Key.cmp a b ≡ nat_cmp (rank a) (rank b) };
 }
 
 // A new row was to be put where every place is taken.
@@ -57,6 +63,7 @@ impl<E: Row, const N: usize> Table<E, N> {
 
     // Where the key's row stands, or where it would stand.
     fn place(&self, key: E::Key) -> Result<usize, usize>
+        requires { E.within key }
         ensures { Place (λ e. E.rank (E.key e)) (E.rank key) self.now.rows.items result }
     {
         self.rows.binary_search_by_key(&key, |row| row.key())
@@ -64,6 +71,7 @@ impl<E: Row, const N: usize> Table<E, N> {
 
     // The row of a key.
     pub fn find(&self, key: E::Key) -> Option<E>
+        requires { E.within key }
         ensures { result ≡ found (λ e. E.rank (E.key e)) (E.rank key) self.now.rows.items }
     {
         let i = self.place(key).ok()?;
@@ -87,6 +95,7 @@ impl<E: Row, const N: usize> Table<E, N> {
 
     // Takes a key's row out.
     pub fn remove(&mut self, key: E::Key) -> Option<E>
+        requires { E.within key }
         ensures given { result ≡ found (λ e. E.rank (E.key e)) (E.rank key) self.old.rows.items }
         ensures after { self.new.rows.items ≡ without (λ e. E.rank (E.key e)) (E.rank key) self.old.rows.items }
     {
