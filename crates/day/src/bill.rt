@@ -27,6 +27,7 @@ pub struct Bill {
 }
 
 impl Bill {
+    // All calls of the bill, and their seconds together.
     pub fn total(&self) -> Total
         ensures { Totalled self.now.entries.items result.calls result.seconds }
     {

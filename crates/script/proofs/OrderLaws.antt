@@ -1,9 +1,9 @@
 -- A line gives an order just where it says a command whose words are numbers.
-use Rattle.std.proofs.Common.{◌≡◌, ℕ, Bool, true, false, cond, eqb, List, [], ◌∷◌, Some, None, Option, sym, refl, ap, ◌∙◌, arith, Bor}
-use Rattle.std.specs.Option.{option_map}
+use Rattle.std.proofs.Common.{◌≡◌, ℕ, true, eqb, List, [], ◌∷◌, Some, None, Option, sym, refl, ap, ◌∙◌, arith, Bor}
 use Rattle.std.specs.List.{AllByRecursion}
 use Rattle.std.proofs.ByRecursion.{All-weaker}
 use Rattle.std.proofs.lemmas.Bool.{eqb-true}
+use Rattle.std.proofs.lemmas.Bool.Decides.{nat_tests}
 use Rattle.script.specs.declared.commands.Command.{Command}
 use Rattle.script.specs.declared.commands.Command.TheVariants.{Begin, End, Turn, Fail, Avail}
 use Rattle.script.specs.Bytes.{Without}
@@ -40,11 +40,6 @@ no_numbers order [] b solid more no_words = refl
 no_numbers order (x ∷ xs) b solid more no_words =
     ap (both order (decimal (x ∷ xs))) (no_number b more (no_words (omega arith, solid))) ∙ both_none order (decimal (x ∷ xs))
 
-neither : (v w : Bool) (x y : Option (Command ℕ)) → (v ≡ true → x ≡ None) → (w ≡ true → y ≡ None) → cond v x (cond w y None) ≡ None
-neither true w x y first second = first refl
-neither false true x y first second = second refl
-neither false false x y first second = refl
-
 -- a reference to the bytes
 abbrev to : List ℕ → Bor (List ℕ)
 to bytes = record { ref_ptr = (0, 0); now = bytes }
@@ -58,13 +53,17 @@ module _ (line : List ℕ) (unsaid : (c : Spoken) → Says line c → ⊥) where
   unsaid_in [] is solid = refl
   unsaid_in ([] ∷ more) is solid = refl
   unsaid_in ((l ∷ m ∷ ms) ∷ more) is solid = refl
-  unsaid_in ((l ∷ []) ∷ []) is solid = neither (eqb l 116) false (Some Turn) None (λ e. absurd (not_by Turn l is e tt)) (λ e. refl)
+  unsaid_in ((l ∷ []) ∷ []) is solid = let turn : eqb l 116 ≡ true → ⊥ = λ e. not_by Turn l is e tt in grind (arith, nat_tests)
   unsaid_in ((l ∷ []) ∷ a ∷ []) is solid =
       let none : (c : Spoken) → arguments c ≡ a ∷ [] → eqb l (letter c) ≡ true → decimal a ≡ None = λ c same e. no_number a solid.1.0 (λ w. not_by c l (rw same is) e (rw same (w, tt))) in
-      neither (eqb l 102) (eqb l 118) (option_map Fail (decimal a)) (option_map Avail (decimal a)) (λ e. ap (option_map Fail) (none (Fail (to a)) refl e)) (λ e. ap (option_map Avail) (none (Avail (to a)) refl e))
+      let fail = none (Fail (to a)) refl in
+      let avail = none (Avail (to a)) refl in
+      grind (arith, nat_tests)
   unsaid_in ((l ∷ []) ∷ a ∷ b ∷ []) is solid =
       let none : (order : ℕ → ℕ → Command ℕ) (c : Spoken) → arguments c ≡ a ∷ b ∷ [] → eqb l (letter c) ≡ true → both order (decimal a) (decimal b) ≡ None = λ order c same e. no_numbers order a b solid.1.0 solid.1.1.0 (λ v w. not_by c l (rw same is) e (rw same (v, (w, tt)))) in
-      neither (eqb l 98) (eqb l 101) (both Begin (decimal a) (decimal b)) (both End (decimal a) (decimal b)) (none Begin (Begin (to a) (to b)) refl) (none End (End (to a) (to b)) refl)
+      let begin = none Begin (Begin (to a) (to b)) refl in
+      let end = none End (End (to a) (to b)) refl in
+      grind (arith, nat_tests)
   unsaid_in ((l ∷ []) ∷ a ∷ b ∷ c ∷ more) is solid = refl
 
   order_unsaid : order_of line ≡ None
