@@ -159,11 +159,14 @@ impl<'a> Message<'a> {
         ensures one { OneMessage }
         ensures exact { MatchOption result ((m : Content) (more : List ℕ) → Short m → message_bytes m ++ more ≢ bytes.now) (λ p. Short (content_of p.0) × (message_bytes (content_of p.0) ++ p.1.now ≡ bytes.now)) }
     {
-        let ([kind, length], rest) = bytes.split_first_chunk::<2>()?;
+        // A pattern, so that each byte of the header has its name, as the format has it.
+        let [kind, length, v0, v1, n0, n1, n2, n3, rest @ ..] = bytes else {
+            return None;
+        };
         let kind = Kind::try_from(*kind).ok()?;
+        let version = u16::from_bytes([*v0, *v1]);
+        let number = u32::from_bytes([*n0, *n1, *n2, *n3]);
         let length = usize::from(*length);
-        let (version, rest) = u16::take(rest)?;
-        let (number, rest) = u32::take(rest)?;
         if length > LONGEST_BODY {
             return None;
         }

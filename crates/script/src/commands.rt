@@ -14,26 +14,34 @@ pub enum Command<W> {
     Avail { side: W },
 }
 
-// The command that a line says, if it says one.
-pub fn read_command(line: &[u8]) -> Option<Command<&[u8]>>
-    ensures { MatchOption result ((c : Spoken) → Says line.now c → ⊥) (λ c. Says line.now c) }
+// The command of a letter and of what stands after it.
+fn command_of(letter: u8, rest: &[u8]) -> Option<Command<&[u8]>>
+    ensures { MatchOption result ((c : Spoken) → spell c ≡ letter → EndsWith rest.now (arguments c) → ⊥) (λ c. (spell c ≡ letter) × EndsWith rest.now (arguments c)) }
 {
-    match line {
-        [b'b', rest @ ..] => {
+    match letter as char {
+        'b' => {
             let (line, stamp) = two_words(rest)?;
             Some(Command::Begin { line, stamp })
         }
-        [b'e', rest @ ..] => {
+        'e' => {
             let (line, stamp) = two_words(rest)?;
             Some(Command::End { line, stamp })
         }
-        [b't'] => Some(Command::Turn),
-        [b'f', rest @ ..] => Some(Command::Fail {
+        't' if rest.is_empty() => Some(Command::Turn),
+        'f' => Some(Command::Fail {
             side: one_word(rest)?,
         }),
-        [b'v', rest @ ..] => Some(Command::Avail {
+        'v' => Some(Command::Avail {
             side: one_word(rest)?,
         }),
         _ => None,
     }
+}
+
+// The command that a line says, if it says one.
+pub fn read_command(line: &[u8]) -> Option<Command<&[u8]>>
+    ensures { MatchOption result ((c : Spoken) → Says line.now c → ⊥) (λ c. Says line.now c) }
+{
+    let (letter, rest) = line.split_first()?;
+    command_of(*letter, rest)
 }
