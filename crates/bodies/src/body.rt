@@ -8,8 +8,8 @@ ghost use Rattle.bodies.specs.Weights.{longest_body};
 pub struct WrongLength;
 
 // A body kind: a fixed length of 1 to 40 bytes, a writing and a reading.
-// Each kind names its fields once in writing (`put`) and once in reading (`Number::take`). One implementation for all, over
-// tuples of fields, is no plainer: a part needs a length, and the sum of two may pass the largest number of the machine.
+// Each kind names its fields once in writing (`put`) and once in reading (`Number::take`), a line each. One implementation for all kinds,
+// over tuples of fields, is no plainer: each kind would still have a function to the tuple and one from it.
 pub trait Body: Copy {
     // the length of every writing
     ghost size: { ℕ };
@@ -35,7 +35,7 @@ pub trait Body: Copy {
         ensures { result ≡ value from.now };
 }
 
-// How many of so many bytes are left behind parts, if they are enough.
+// How many bytes of a whole are left behind the parts; none where the parts are longer.
 fn left_behind(parts: &[&[u8]], whole: usize) -> Option<usize>
     ensures { MatchOption result (whole < length (flat_map (λ p. p.now) parts.now)) (λ left. left + length (flat_map (λ p. p.now) parts.now) ≡ whole) }
 {
@@ -53,6 +53,7 @@ pub fn put(parts: &[&[u8]], out: &mut [u8]) -> Result<(), WrongLength>
     if left_behind(parts, out.len()) != Some(0) {
         return Err(WrongLength);
     }
+    // Where the next part goes is counted along: cutting the rest off behind each part would take the lent slice out of its name.
     let mut at = 0;
     for part in parts {
         let end = at + part.len();

@@ -11,7 +11,7 @@ pub struct Call {
     pub seconds: u32,
 }
 
-// Field by field, as `Body` says why.
+// Its fields are written and read one by one; `Body` tells why.
 impl Body for Call {
     ghost size = { 8 };
 

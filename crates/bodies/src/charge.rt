@@ -12,7 +12,7 @@ pub struct Charge {
     pub seconds: u64,
 }
 
-// Field by field, as `Body` says why.
+// Its fields are written and read one by one; `Body` tells why.
 impl Body for Charge {
     ghost size = { 16 };
 

@@ -45,7 +45,7 @@ pub struct Event {
     pub kind: EventKind,
 }
 
-// Field by field, as `Body` says why.
+// Its fields are written and read one by one; `Body` tells why.
 impl Body for Event {
     ghost size = { 9 };
 
@@ -73,11 +73,8 @@ impl Body for Event {
     fn read(from: &[u8]) -> Option<Event> {
         let (line, rest) = u32::take(from)?;
         let (stamp, rest) = u32::take(rest)?;
-        // A pattern, as no method of a slice takes a last byte and asks that none follows.
-        let [kind] = rest else {
-            return None;
-        };
+        let (kind, rest) = rest.split_first()?;
         let kind = EventKind::try_from(*kind).ok()?;
-        Some(Event { line, stamp, kind })
+        rest.is_empty().then_some(Event { line, stamp, kind })
     }
 }

@@ -7,7 +7,7 @@ pub trait Number<const N: usize>: Copy {
     // what a number writes
     ghost bytes: { Self → List ℕ };
 
-    // no number is wider
+    // No number is wider: taking an array off a slice asks that its length is far below the machine's largest number.
     ghost narrow: { N ≤ 8 };
 
     fn to_bytes(self) -> [u8; N]
@@ -26,6 +26,7 @@ pub trait Number<const N: usize>: Copy {
     }
 }
 
+// Each implementation repeats what `from_bytes` promises: the check gives no method the clause of a trait that has a const parameter.
 impl Number<2> for u16 {
     ghost bytes = { be16 };
 

@@ -1,4 +1,4 @@
-ghost use Rattle.std.specs.Prelude.{◌≡◌, refl, ⊤};
+ghost use Rattle.std.specs.Prelude.{◌≡◌};
 ghost use Rattle.line_operators.specs.Totals.{charge_line, billed};
 
 use super::table::Row;
@@ -9,13 +9,7 @@ impl Row for Charge {
 
     ghost key = { charge_line };
 
-    ghost rank = { λ k. k };
-
-    ghost within = { λ k. ⊤ };
-
     ghost keyed = { λ e s. tt };
-
-    ghost ranked = { λ a b _ _. refl };
 
     ghost sound = { billed };
 

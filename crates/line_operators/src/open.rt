@@ -1,4 +1,4 @@
-ghost use Rattle.std.specs.Prelude.{◌≡◌, true, refl, ⊤};
+ghost use Rattle.std.specs.Prelude.{◌≡◌, true};
 ghost use Rattle.line_operators.specs.Opens.{open_bytes, open_value, open_laws};
 
 use super::table::Row;
@@ -12,7 +12,7 @@ pub struct Open {
     pub stamp: u32,
 }
 
-// Field by field, as `Body` says why.
+// Its fields are written and read one by one; `Body` tells why.
 impl Body for Open {
     ghost size = { 8 };
 
@@ -42,13 +42,7 @@ impl Row for Open {
 
     ghost key = { λ o. o.line };
 
-    ghost rank = { λ k. k };
-
-    ghost within = { λ k. ⊤ };
-
     ghost keyed = { λ e s. tt };
-
-    ghost ranked = { λ a b _ _. refl };
 
     ghost sound = { λ o. true };
 

@@ -1,4 +1,4 @@
-ghost use Rattle.std.specs.Prelude.{◌≡◌, true};
+ghost use Rattle.std.specs.Prelude.{◌≡◌};
 ghost use Rattle.operators.specs.Operators.{listed};
 ghost use Rattle.line_operators.specs.Rows.{found, put_in, without};
 ghost use Rattle.line_operators.specs.Tables.{table_of};
@@ -44,8 +44,8 @@ impl Sessions {
     }
 }
 
-// A line for each call that the table answers, as in Totals: one operator over any table would need a trait of what a value
-// does to it, and the trait's implementations would have these lines.
+// Four of its functions hand a call on to the table, as those of Totals do. One operator over any table is no plainer: it would need a
+// trait of what a value does to the rows, with the kinds, the row and the places as its members.
 impl Operator for Sessions {
     type In = Event;
 

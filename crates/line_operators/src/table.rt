@@ -1,26 +1,21 @@
 ghost use Rattle.std.specs.Prelude.{◌≡◌, ℕ, ◌<◌, ◌≤◌, Bool, true, List, [], length, None, MatchOption, ◌≢◌, nat_le, is_ok};
-ghost use Rattle.std.specs.Ordering.{nat_cmp};
 ghost use Rattle.bodies.specs.Bodies.{Laid};
 ghost use Rattle.line_operators.specs.Rows.{orderly, found, with_row, put_in, without, listing};
 ghost use Rattle.line_operators.specs.Places.{Place};
 
 use arrayvec::ArrayVec;
 use bodies::body::Body;
+use key::Ranked;
 use reading::{in_order, read_rows};
 
+pub mod key;
 mod reading;
 
 // A body that stands in a table by its key.
 pub trait Row: Body + Default {
-    type Key: Ord + Copy;
+    type Key: Ranked;
 
     ghost key: { Self → Self.Key };
-
-    // the keys' order, as that of numbers
-    ghost rank: { Self.Key → ℕ };
-
-    // keys whose numbers are within their types, since a law's numbers have no range
-    ghost within: { Self.Key → Type 0 };
 
     // whether a table may hold it
     ghost sound: { Self → Bool };
@@ -31,24 +26,22 @@ pub trait Row: Body + Default {
     fn sound(&self) -> bool
         ensures { result ≡ sound self.now };
 
-    // a sound row's key is such a key
-    ghost keyed: { (e : Self) → sound e ≡ true → within (key e) };
-
-    // and those compare as their ranks
-    ghost ranked: { (a b : Self.Key) → within a → within b → Self.Key.cmp a b ≡ nat_cmp (rank a) (rank b) };
+    // a sound row's key is one that the code can have
+    ghost keyed: { (e : Self) → sound e ≡ true → Self.Key.within (key e) };
 }
 
 // A new row was to be put where every place is taken.
 #[derive(Clone, Copy, PartialEq, Debug)]
 pub struct Full;
 
-// At most N rows, each sound, in rising order of their keys; a byte counts them.
+// At most N rows, each sound, in rising order of their keys; a byte counts them. What it keeps are facts of its own and not of a model, as
+// an operator's state is made of its rows and these facts.
 #[derive(Drop)]
 pub struct Table<E: Row, const N: usize> {
     rows: ArrayVec<E, N>,
     ghost counted: { N ≤ 255 },
     ghost few: { length rows.items ≤ N },
-    ghost ordered: { orderly (λ e. E.rank (E.key e)) E.sound 0 rows.items ≡ true },
+    ghost ordered: { orderly (λ e. E.Key.rank (E.key e)) E.sound 0 rows.items ≡ true },
 }
 
 impl<E: Row, const N: usize> Table<E, N> {
@@ -63,16 +56,16 @@ impl<E: Row, const N: usize> Table<E, N> {
 
     // Where the key's row stands, or where it would stand.
     fn place(&self, key: E::Key) -> Result<usize, usize>
-        requires { E.within key }
-        ensures { Place (λ e. E.rank (E.key e)) (E.rank key) self.now.rows.items result }
+        requires { E.Key.within key }
+        ensures { Place (λ e. E.Key.rank (E.key e)) (E.Key.rank key) self.now.rows.items result }
     {
         self.rows.binary_search_by_key(&key, |row| row.key())
     }
 
     // The row of a key.
     pub fn find(&self, key: E::Key) -> Option<E>
-        requires { E.within key }
-        ensures { result ≡ found (λ e. E.rank (E.key e)) (E.rank key) self.now.rows.items }
+        requires { E.Key.within key }
+        ensures { result ≡ found (λ e. E.Key.rank (E.key e)) (E.Key.rank key) self.now.rows.items }
     {
         let i = self.place(key).ok()?;
         Some(self.rows[i])
@@ -82,8 +75,8 @@ impl<E: Row, const N: usize> Table<E, N> {
     // Refused, and nothing changed, where it is new and every place is taken.
     pub fn put(&mut self, row: E) -> Result<(), Full>
         requires { E.sound row ≡ true }
-        ensures after { self.new.rows.items ≡ put_in (λ e. E.rank (E.key e)) N row self.old.rows.items }
-        ensures fits { is_ok result ≡ nat_le (length (with_row (λ e. E.rank (E.key e)) row self.old.rows.items)) N }
+        ensures after { self.new.rows.items ≡ put_in (λ e. E.Key.rank (E.key e)) N row self.old.rows.items }
+        ensures fits { is_ok result ≡ nat_le (length (with_row (λ e. E.Key.rank (E.key e)) row self.old.rows.items)) N }
     {
         match self.place(row.key()) {
             Ok(i) => self.rows[i] = row,
@@ -95,9 +88,9 @@ impl<E: Row, const N: usize> Table<E, N> {
 
     // Takes a key's row out.
     pub fn remove(&mut self, key: E::Key) -> Option<E>
-        requires { E.within key }
-        ensures given { result ≡ found (λ e. E.rank (E.key e)) (E.rank key) self.old.rows.items }
-        ensures after { self.new.rows.items ≡ without (λ e. E.rank (E.key e)) (E.rank key) self.old.rows.items }
+        requires { E.Key.within key }
+        ensures given { result ≡ found (λ e. E.Key.rank (E.key e)) (E.Key.rank key) self.old.rows.items }
+        ensures after { self.new.rows.items ≡ without (λ e. E.Key.rank (E.key e)) (E.Key.rank key) self.old.rows.items }
     {
         let i = self.place(key).ok()?;
         Some(self.rows.remove(i))
@@ -135,7 +128,7 @@ impl<E: Row, const N: usize> Table<E, N> {
     // The table that a count byte and rows write; refused are bytes that no table writes.
     pub fn read(from: &[u8]) -> Option<Self>
         requires { N ≤ 255 }
-        ensures { MatchOption result ((xs : List E) → length xs ≤ N → orderly (λ e. E.rank (E.key e)) E.sound 0 xs ≡ true → listing E.bytes xs ≢ from.now) (λ t. listing E.bytes t.rows.items ≡ from.now) }
+        ensures { MatchOption result ((xs : List E) → length xs ≤ N → orderly (λ e. E.Key.rank (E.key e)) E.sound 0 xs ≡ true → listing E.bytes xs ≢ from.now) (λ t. listing E.bytes t.rows.items ≡ from.now) }
     {
         let rows = read_rows(from)?;
         if !in_order(&rows) {

@@ -1,4 +1,4 @@
-ghost use Rattle.std.specs.Prelude.{◌≡◌, true};
+ghost use Rattle.std.specs.Prelude.{◌≡◌};
 ghost use Rattle.line_operators.specs.Tables.{table_of};
 ghost use Rattle.line_operators.specs.Totals.{Charges, charge_line, billed, raised, none_charged, totals_next, totals_gives, totals_written, totals_laws};
 
@@ -25,7 +25,7 @@ fn raise(charge: Option<Charge>, call: Call) -> Charge
     }
 }
 
-// A line for each call that the table answers, as Sessions says why.
+// Four of its functions hand a call on to the table; Sessions tells why.
 impl Operator for Totals {
     type In = Call;
 

@@ -16,8 +16,8 @@ pub enum Untaken {
 #[derive(Clone, Copy, PartialEq, Debug)]
 pub struct Empty;
 
-// A call that changes a link.
-#[derive(Clone, Copy)]
+// A call that changes a link, as a value, since a law speaks of lists of calls.
+#[derive(Clone, Copy, PartialEq, Debug)]
 pub enum LinkCall<'a> {
     Offer(Message<'a>),
     DropFirst,

@@ -25,7 +25,7 @@ impl<T, const N: usize> Model for Ring<T, N> {
 }
 
 impl<T: Copy, const N: usize> Ring<T, N> {
-    // An empty ring, with `blank` in its places. They are few enough that the numbers of two can be added.
+    // An empty ring, with `blank` in its places, of which there are few enough that two numbers of places can be added.
     pub fn new(blank: T) -> Self
         requires some { 0 < N }
         requires few { N + N ≤ 2 ^ 64 }

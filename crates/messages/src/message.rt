@@ -28,7 +28,7 @@ impl From<body::WrongLength> for Unwritten {
 }
 
 // What one unit tells another, with the body where it lies.
-#[derive(Clone, Copy)]
+#[derive(Clone, Copy, PartialEq, Debug)]
 pub enum Message<'a> {
     Record { number: u32, body: &'a [u8] },
     Result { number: u32, body: &'a [u8] },

@@ -1,6 +1,5 @@
 -- Rings: how long they are, some gone from the front, one more behind the others, and numbers cut to their remainder.
 use Rattle.std.proofs.Common.{◌≡◌, ℕ, zero, suc, ◌+◌, ◌-◌, ◌*◌, ◌/◌, ◌%◌, ◌<◌, ◌≤◌, List, [], ◌∷◌, ◌++◌, map, length, get_or, take, drop, sym, refl, ap, ◌∙◌, inl, inr, mul-le-mul_right, mod-lt, add-mul, div-add-mod', arith, length-take-le, take_at, drop_at}
-use native.Mathlib.Nat.{mod-mod, mod-add-mod}
 use borrow.Rule.Slice.PartMut.{put_mid, post_of}
 use Rattle.std.specs.List.{range_with_len}
 use Rattle.std.proofs.lemmas.List.FromFn.{length-map-range_with_len, get_or-map-range_with_len, map-range_with_len_more}
@@ -85,16 +84,3 @@ module _ (places size : ℕ) where
       let others = map_same (at_place places size u) (at_place places size t) from count (λ j h g. other t ys at k (j % places) (n % places) e f l (omega arith) (apart places j n (omega arith) (omega arith))) in
       let last = same t ys at k (n % places) e l (omega arith) in
       map-range_with_len_more (at_place places size u) from count n refl ∙ (λ i. others i ++ (last i ∷ []))
-
-  -- numbers of one remainder have one place, and so have those after them
-  ring_alike : (t : List ℕ) (a b count : ℕ) → a % places ≡ b % places → ring places size t a count ≡ ring places size t b count
-  ring_alike t a b zero e = refl
-  ring_alike t a b (suc k) e =
-      let first = ap (λ r. take size (drop (r * size) t)) e in
-      let next = sym (mod-add-mod a places 1) ∙ ap (λ r. (r + 1) % places) e ∙ mod-add-mod b places 1 in
-      let more = ring_alike t (a + 1) (b + 1) k next in
-      λ i. first i ∷ more i
-
-  -- a ring from a number is the ring from its remainder
-  pub ring_wrap : (t : List ℕ) (from count : ℕ) → ring places size t (from % places) count ≡ ring places size t from count
-  ring_wrap t from count = ring_alike t (from % places) from count (mod-mod from places)

@@ -43,8 +43,8 @@ pub trait Operator: Drop {
         ensures after { state self.new ≡ next (state self.old) value }
         ensures given { listed result ≡ gives (state self.old) value };
 
-    // The next three promise something of lengths below 4,294,967,295 alone: as a fact of every make it would shut out pipes
-    // whose parts are as long as that.
+    // An operator whose longest length is 4,294,967,295 promises nothing of the lengths of its states, nor of reading them; so says the
+    // format, and so the next three say it one by one.
 
     // How many bytes the state writes.
     fn state_length(&self) -> usize

@@ -10,7 +10,7 @@ use crate::numbers::read_number;
 pub type Order = Command<u32>;
 
 impl Command<&[u8]> {
-    // The order, where each word is a number. Words are read in this one way, so the reading is no parameter, which would ask something of callers.
+    // The order, where each word is a number.
     pub fn order(&self) -> Option<Order>
         ensures { result ≡ order_by (letter self.now) (arguments self.now) }
     {

@@ -6,7 +6,7 @@ use arrayvec::ArrayVec;
 
 // Whether rows are sound and rise by their keys.
 pub fn in_order<E: Row>(rows: &[E]) -> bool
-    ensures { result ≡ orderly (λ e. E.rank (E.key e)) E.sound 0 rows.now }
+    ensures { result ≡ orderly (λ e. E.Key.rank (E.key e)) E.sound 0 rows.now }
 {
     rows.iter().all(|row| row.sound()) && rows.is_sorted_by(|a, b| a.key() < b.key())
 }

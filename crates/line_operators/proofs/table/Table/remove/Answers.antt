@@ -8,23 +8,23 @@ use Rattle.line_operators.proofs.table.Table.remove.Goals.{After-remove}
 
 pub returns-in_err-i : goal.returns-in_err-i
 returns-in_err-i g c =
-    let rank = λ (e : g.row.E.Denot). g.E.Row.rank (g.E.Row.key e) in
-    let none = at_none rank (g.E.Row.rank c.args.key) c.args.self.now.rows.items c.place.result c.place.ensures (sym c.in_err-i.ensures.value) in
+    let rank = λ (e : g.row.E.Denot). g.E.Key.Ranked.rank (g.E.Row.key e) in
+    let none = at_none rank (g.E.Key.Ranked.rank c.args.key) c.args.self.now.rows.items c.place.result c.place.ensures (sym c.in_err-i.ensures.value) in
     record { given = c.from_residual.ensures ∙ sym none.0; after = sym none.1 }
 
 -- the row that goes is that of the key
-known : (g : given.Over) (c : After-remove g) → Known (λ e. g.E.Row.rank (g.E.Row.key e)) (g.E.Row.rank c.args.key) c.in_ok-i.i c.args.self.now.rows.items
-known g c = at_some (λ e. g.E.Row.rank (g.E.Row.key e)) (g.E.Row.rank c.args.key) c.in_ok-i.i c.args.self.now.rows.items c.place.result c.place.ensures (sym c.in_ok-i.ensures.value)
+known : (g : given.Over) (c : After-remove g) → Known (λ e. g.E.Key.Ranked.rank (g.E.Row.key e)) (g.E.Key.Ranked.rank c.args.key) c.in_ok-i.i c.args.self.now.rows.items
+known g c = at_some (λ e. g.E.Key.Ranked.rank (g.E.Row.key e)) (g.E.Key.Ranked.rank c.args.key) c.in_ok-i.i c.args.self.now.rows.items c.place.result c.place.ensures (sym c.in_ok-i.ensures.value)
 
 pub invariant_of-self : goal.invariant_of-self
 invariant_of-self g c =
-    let rank = λ (e : g.row.E.Denot). g.E.Row.rank (g.E.Row.key e) in
+    let rank = λ (e : g.row.E.Denot). g.E.Key.Ranked.rank (g.E.Row.key e) in
     let old = c.args.self.now in
     let takes = (known g (goal.at.invariant_of-self g c).After-remove).takes in
     record {
       counted = old.counted;
       few = omega (arith, c.remove.ensures.len, old.few);
-      ordered = ap (orderly rank g.E.Row.sound 0) (c.remove.ensures.items ∙ sym takes) ∙ without_orderly rank g.E.Row.sound 0 (g.E.Row.rank c.args.key) old.rows.items old.ordered;
+      ordered = ap (orderly rank g.E.Row.sound 0) (c.remove.ensures.items ∙ sym takes) ∙ without_orderly rank g.E.Row.sound 0 (g.E.Key.Ranked.rank c.args.key) old.rows.items old.ordered;
     }
 
 pub returns : goal.returns

@@ -18,10 +18,10 @@ pub returns-then-all : goal.returns-then-all
 returns-then-all g c =
     let key = g.E.Row.key in
     let below = λ (a : g.row.E.Denot) (b : g.row.E.Denot). partial_lt g.E.Key.PartialOrd.partial_cmp (key a) (key b) in
-    in_order_is (λ e. g.E.Row.rank (key e)) g.E.Row.sound c.args.rows.now below
-    (λ x y a b. grind (arith, nat_tests, g.met.E.Key.Ord.matches_partial_cmp (key x) (key y), g.met.E.Row.ranked (key x) (key y) (g.met.E.Row.keyed x a) (g.met.E.Row.keyed y b)))
+    in_order_is (λ e. g.E.Key.Ranked.rank (key e)) g.E.Row.sound c.args.rows.now below
+    (λ x y a b. grind (arith, nat_tests, g.met.E.Key.Ord.matches_partial_cmp (key x) (key y), g.met.E.Key.Ranked.ranked (key x) (key y) (g.met.E.Row.keyed x a) (g.met.E.Row.keyed y b)))
     (sym (each g (goal.at.returns-then-all g c).After-all) ∙ c.if-all.true)
     c.is_sorted_by.result (c.is_sorted_by.ensures.cases below (answers_always _ _ _ (λ f a r f' called. search rules)))
 
 pub returns-else-all : goal.returns-else-all
-returns-else-all g c = c.if-all.false ∙ not_sound (λ e. g.E.Row.rank (g.E.Row.key e)) g.E.Row.sound c.args.rows.now (sym (each g (goal.at.returns-else-all g c).After-all) ∙ c.if-all.false)
+returns-else-all g c = c.if-all.false ∙ not_sound (λ e. g.E.Key.Ranked.rank (g.E.Row.key e)) g.E.Row.sound c.args.rows.now (sym (each g (goal.at.returns-else-all g c).After-all) ∙ c.if-all.false)
