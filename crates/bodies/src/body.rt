@@ -8,8 +8,8 @@ ghost use Rattle.bodies.specs.Weights.{longest_body};
 pub struct WrongLength;
 
 // A body kind: a fixed length of 1 to 40 bytes, a writing and a reading.
-// Each kind names its fields once in writing (`put`) and once in reading (`Number::take`), a line each. One implementation for all kinds,
-// over tuples of fields, is no plainer: each kind would still have a function to the tuple and one from it.
+// Each kind names its fields once in writing (`put`) and once in reading (`Number::take`), a line each; by tuples of fields it would have a
+// function to its tuple and one from it, and so as many lines.
 pub trait Body: Copy {
     // the length of every writing
     ghost size: { ℕ };
@@ -53,7 +53,7 @@ pub fn put(parts: &[&[u8]], out: &mut [u8]) -> Result<(), WrongLength>
     if left_behind(parts, out.len()) != Some(0) {
         return Err(WrongLength);
     }
-    // Where the next part goes is counted along: cutting the rest off behind each part would take the lent slice out of its name.
+    // Where the next part goes is counted along; cutting the front off (`split_off_mut`) would answer an option at each part.
     let mut at = 0;
     for part in parts {
         let end = at + part.len();

@@ -26,7 +26,7 @@ pub trait Number<const N: usize>: Copy {
     }
 }
 
-// Each implementation repeats what `from_bytes` promises: the check gives no method the clause of a trait that has a const parameter.
+// Each implementation repeats the clause of `from_bytes`, which the check does not take from a trait with a const parameter there.
 impl Number<2> for u16 {
     ghost bytes = { be16 };
 

@@ -44,8 +44,8 @@ impl Sessions {
     }
 }
 
-// Four of its functions hand a call on to the table, as those of Totals do. One operator over any table is no plainer: it would need a
-// trait of what a value does to the rows, with the kinds, the row and the places as its members.
+// Four of its functions hand a call on to the table, as those of Totals do; one operator over any table would stand on a trait of what a
+// value does to its rows, with as many members.
 impl Operator for Sessions {
     type In = Event;
 

@@ -26,7 +26,7 @@ pub trait Row: Body + Default {
     fn sound(&self) -> bool
         ensures { result ≡ sound self.now };
 
-    // a sound row's key is one that the code can have
+    // the key of a sound row is such a key
     ghost keyed: { (e : Self) → sound e ≡ true → Self.Key.within (key e) };
 }
 
@@ -34,8 +34,8 @@ pub trait Row: Body + Default {
 #[derive(Clone, Copy, PartialEq, Debug)]
 pub struct Full;
 
-// At most N rows, each sound, in rising order of their keys; a byte counts them. What it keeps are facts of its own and not of a model, as
-// an operator's state is made of its rows and these facts.
+// At most N rows, each sound, in rising order of their keys; a byte counts them. An operator's state is made of the rows and of these
+// facts, so clauses name them, and it has no model.
 #[derive(Drop)]
 pub struct Table<E: Row, const N: usize> {
     rows: ArrayVec<E, N>,

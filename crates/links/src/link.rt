@@ -45,8 +45,8 @@ pub trait Link: Drop {
 
     ghost laws: { LinkLaws waiting limit };
 
-    // That limit, of 48 to 4,096 bytes. It belongs to the value, so each call that changes a link says that it keeps it; a limit of
-    // the type would shut out makes whose limit is chosen as they are made.
+    // That limit, of 48 to 4,096 bytes. By a rule of the project it belongs to the value and not to the type, so each call that changes a
+    // link says that it keeps it.
     fn limit(&self) -> usize
         ensures { result ≡ limit self.now };
 

@@ -3,8 +3,8 @@ ghost use Rattle.std.specs.Option.{option_copied};
 
 use std::marker::Model;
 
-// A queue of at most `N` items, in places of which the last is followed by the first. The places are memory of its own, since a unit
-// allocates nothing once it is made; the rings of the libraries are on the heap.
+// A queue of at most `N` items, in places of which the last is followed by the first. The places are memory of its own, since the core
+// allocates nothing; the rings of the libraries are on the heap.
 #[derive(Drop)]
 pub struct Ring<T, const N: usize> {
     places: [T; N],

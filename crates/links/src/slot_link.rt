@@ -17,6 +17,7 @@ const LIMIT: usize = 512;
 #[derive(Drop)]
 pub struct SlotLink {
     slots: Ring<[u8; LONGEST_MESSAGE], SLOTS>,
+    // noted, as adding up the weights would take longer the more wait
     weight: usize,
     ghost filled: { all_filled slots ≡ true },
     ghost weighs: { weight ≡ weigh_all (in_slots slots) },

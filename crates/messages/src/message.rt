@@ -38,8 +38,7 @@ pub enum Message<'a> {
     Reverse,
 }
 
-// The messages without a body, which borrow from nothing. Each is a case of the enum and no more: one function over the case would be
-// that case again.
+// The messages without a body, which borrow from nothing: a case of the enum each.
 impl Message<'static> {
     pub fn ack(number: u32) -> Message<'static>
         ensures { content_of result ≡ Ack number }
@@ -153,13 +152,13 @@ impl<'a> Message<'a> {
         }
     }
 
-    // The message that the bytes begin with, and the bytes behind it.
+    // The message that the bytes begin with, and the bytes behind it. (The check is told the lemma that `one` is.)
     #[tactic(auto, using(crate::specs::Messages::one_message))]
     pub fn split_first(bytes: &'a [u8]) -> Option<(Message<'a>, &'a [u8])>
         ensures one { OneMessage }
         ensures exact { MatchOption result ((m : Content) (more : List ℕ) → Short m → message_bytes m ++ more ≢ bytes.now) (λ p. Short (content_of p.0) × (message_bytes (content_of p.0) ++ p.1.now ≡ bytes.now)) }
     {
-        // A pattern, so that each byte of the header has its name, as the format has it.
+        // By a rule of the project a header is taken apart by a pattern, in which each byte has a name.
         let [kind, length, v0, v1, n0, n1, n2, n3, rest @ ..] = bytes else {
             return None;
         };

@@ -24,8 +24,8 @@ fn write_at<B: Body>(table: &mut [u8], at: usize, value: B)
     let _ = value.write(&mut table[at..at + B::size()]);
 }
 
-// The buffer of values of one body kind that these numbers and a table of bytes make. The table is lent to each call, since its
-// holder has it among its own fields; so it is no field here.
+// The buffer of values of one body kind that these numbers and a table of bytes make. By a rule of the project the table is plain bytes, lent to
+// each call; so what the two mean (`holding`), and that too short a table shows nothing, stand in the clauses.
 impl Numbers {
     // What the buffer weighs: values as header and body, bare numbers as headers.
     pub fn weight<B: Body>(&self) -> usize

@@ -43,8 +43,8 @@ pub trait Operator: Drop {
         ensures after { state self.new ≡ next (state self.old) value }
         ensures given { listed result ≡ gives (state self.old) value };
 
-    // An operator whose longest length is 4,294,967,295 promises nothing of the lengths of its states, nor of reading them; so says the
-    // format, and so the next three say it one by one.
+    // An operator whose longest length is 4,294,967,295 promises nothing of the lengths of its states, nor of reading them; that is a rule
+    // of the project, and so the next three say it one by one.
 
     // How many bytes the state writes.
     fn state_length(&self) -> usize

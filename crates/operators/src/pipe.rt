@@ -14,14 +14,14 @@ pub struct Pipe<F: Operator, S: Operator<In = F::Out>> {
 }
 
 impl<F: Operator, S: Operator<In = F::Out>> Pipe<F, S> {
-    // Takes a value, and shows beside the result what went from the first operator into the second.
+    // Takes a value, and shows beside the result what went from the first operator into the second. Two options, though the second has nothing
+    // without the first: so each has its clause, where one inside the other would be taken apart by cases in both.
     pub fn take_through(&mut self, value: F::In) -> (Option<F::Out>, Option<S::Out>)
         ensures front { F.Operator.state self.new.front ≡ F.Operator.next (F.Operator.state self.old.front) value }
         ensures back { S.Operator.state self.new.back ≡ after_all S.Operator.next (S.Operator.state self.old.back) (F.Operator.gives (F.Operator.state self.old.front) value) }
         ensures between { listed result.0 ≡ F.Operator.gives (F.Operator.state self.old.front) value }
         ensures given { listed result.1 ≡ given_all S.Operator.next S.Operator.gives (S.Operator.state self.old.back) (F.Operator.gives (F.Operator.state self.old.front) value) }
     {
-        // Not `and_then`: of a closure that changes `back` nothing is known once it ran.
         let Some(between) = self.front.take(value) else {
             return (None, None);
         };

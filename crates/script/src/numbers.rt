@@ -19,7 +19,6 @@ pub fn read_number(word: &[u8]) -> Option<u32>
     if word.is_empty() {
         return None;
     }
-    // A `for`, as `try_fold` promises something of each call of its closure, and a proof from that is longer.
     let mut number: u32 = 0;
     for byte in word {
         number = with_digit(number, *byte)?;

@@ -36,7 +36,7 @@ fn fill<L: Link>(rt: &impl Abort, link: &mut L) -> Result<u32, Fail> {
 // Takes records of events off, with the numbers from one up to another, each with its own event.
 fn drain<L: Link>(rt: &impl Abort, link: &mut L, from: u32, to: u32) -> Result<(), Fail> {
     for expected in from..to {
-        // A pattern, as it asks for one case of the enum.
+        // By a pattern: no method asks for one case of the enum.
         let Some(Message::Record { number, body }) = link.first() else {
             return Err(Fail::new("no record"));
         };

@@ -84,26 +84,23 @@ fn a_buffer_of_4096_bytes_takes_240_events(rt: HostRuntime) {
     assert!(rt; numbers.cursor::<Event>(&table, 244).is_none());
 }
 
+// A buffer of 4,096 bytes takes values with the numbers below one, and refuses that.
+fn takes_below<B: Body, F: Fn(u32) -> B>(rt: &impl Abort, table: &mut [u8], end: u32, value: F)
+    requires { F.IsAlwaysCallable value }
+{
+    let mut numbers = Numbers::new(4096);
+    insert_all(rt, table, &mut numbers, 1..end, &value);
+    assert_eq!(rt; numbers.insert(table, value(end)), Err(Uninserted::Full));
+}
+
 #[test]
 fn a_buffer_of_4096_bytes_takes_256_calls(rt: HostRuntime) {
-    let mut table = [0u8; 2048];
-    let mut numbers = Numbers::new(4096);
-    insert_all(&rt, &mut table, &mut numbers, 1..257, call);
-    assert_eq!(rt;
-        numbers.insert(&mut table, call(257)),
-        Err(Uninserted::Full)
-    );
+    takes_below(&rt, &mut [0; 2048], 257, call);
 }
 
 #[test]
 fn a_buffer_of_4096_bytes_takes_170_charges(rt: HostRuntime) {
-    let mut table = [0u8; 2720];
-    let mut numbers = Numbers::new(4096);
-    insert_all(&rt, &mut table, &mut numbers, 1..171, charge);
-    assert_eq!(rt;
-        numbers.insert(&mut table, charge(171)),
-        Err(Uninserted::Full)
-    );
+    takes_below(&rt, &mut [0; 2720], 171, charge);
 }
 
 #[test]

@@ -6,10 +6,11 @@ pub trait Ranked: Ord + Copy {
     // the number that a key stands for
     ghost rank: { Self → ℕ };
 
-    // Whether the code can have the key: a law speaks of all numbers in a key's fields, also of those past their types.
+    // Which keys compare so. In a law a number has no largest value: a key of two numbers stands for one number only where both are
+    // below theirs.
     ghost within: { Self → Type 0 };
 
-    // keys that the code can have compare as their numbers
+    // such keys compare as their numbers
     ghost ranked: { (a b : Self) → within a → within b → Self.Ord.cmp a b ≡ nat_cmp (rank a) (rank b) };
 }
 
