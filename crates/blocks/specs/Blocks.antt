@@ -1,0 +1,26 @@
+-- The bytes of a block.
+use Rattle.std.specs.Prelude.{◌≡◌, ℕ, ◌+◌, ◌-◌, ◌<◌, ◌≤◌, ◌⊎◌, List, ◌++◌, length, replicate}
+use Rattle.bodies.specs.Numbers.{be16}
+use Rattle.blocks.specs.declared.block.Block.{Block}
+use Rattle.blocks.specs.Checks.{check_of}
+
+-- the first 510: version, number, count, data length, the data, and zeros
+unfoldable pub checked_bytes : ℕ → ℕ → ℕ → List ℕ → List ℕ
+checked_bytes version number count used =
+    be16 version ++ be16 number ++ be16 count ++ be16 (length used) ++ used ++ replicate (502 - length used) 0
+
+-- these and their check
+unfoldable pub block_bytes : ℕ → ℕ → ℕ → List ℕ → List ℕ
+block_bytes version number count used =
+    checked_bytes version number count used ++ be16 (check_of (checked_bytes version number count used))
+
+abbrev pub bytes_of : Block → List ℕ
+bytes_of b = block_bytes b.version b.number b.count b.«data».now
+
+-- a block of an image: of 1 to 15 blocks, each but the last is full
+pub record IsImageBlock (b : Block) : Type 0 where
+  pub below : b.number < b.count
+  pub most : b.count ≤ 15
+  pub some : 1 ≤ length b.«data».now
+  pub within : length b.«data».now ≤ 502
+  pub full : (b.number + 1 ≡ b.count) ⊎ (length b.«data».now ≡ 502)
