@@ -3,3 +3,4 @@ pub mod Checks
 pub mod Blocks
 pub mod Faults
 pub mod Tests
+pub mod OneByte

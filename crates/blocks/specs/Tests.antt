@@ -41,13 +41,6 @@ first_fault bytes expected =
     else if not (is_filled (slice_range bytes 8 510) used (number + 1 == count)) then Some WrongData
     else None
 
--- a block says what its bytes say
-pub record IsBlockIn (bytes : List ℕ) (b : Block) : Type 0 where
-  pub version_is : b.version ≡ number_at bytes 0
-  pub number_is : b.number ≡ number_at bytes 2
-  pub count_is : b.count ≡ number_at bytes 4
-  pub used_is : b.«data».now ≡ take (number_at bytes 6) (slice_range bytes 8 510)
-
 -- the block is one that is expected
 abbrev pub IsExpected : Expected → Block → Type 0
 IsExpected First b = b.number ≡ 0

@@ -1,8 +1,10 @@
-ghost use Rattle.std.specs.Prelude.{◌≡◌, ◌≢◌, ◌+◌, ◌<◌, ◌==◌, length, take, drop, MatchOption, IfOk, true, false};
+ghost use Rattle.std.specs.Prelude.{◌≡◌, ◌≢◌, ◌+◌, ◌<◌, ◌==◌, length, take, drop, MatchOption, IfOk, OnOk, true, false};
 ghost use Rattle.std.specs.List.{list_all};
 ghost use Rattle.std.specs.Result.{result_err};
+ghost use Rattle.blocks.specs.Blocks.{bytes_of, IsImageBlock};
+ghost use Rattle.blocks.specs.OneByte.{NoByteHides};
 ghost use Rattle.blocks.specs.Faults.{fault_number};
-ghost use Rattle.blocks.specs.Tests.{number_at, is_numbered, has_version, is_filled, first_fault, IsBlockIn};
+ghost use Rattle.blocks.specs.Tests.{number_at, is_numbered, has_version, is_filled, first_fault, IsExpected};
 
 use super::check::{CHECKED_LENGTH, check_of};
 use bodies::numbers::Number;
@@ -122,7 +124,10 @@ fn used_data(places: &[u8], used: u16, is_last: bool) -> Option<&[u8]>
 // The block test: what bytes say that are the block expected, or their first fault.
 pub fn test_block(bytes: &[u8], expected: Expected) -> Result<Block<'_>, BlockFault>
     ensures fault { result_err result ≡ first_fault bytes.now expected }
-    ensures is_block { IfOk result (λ b. IsBlockIn bytes.now b) }
+    ensures says { IfOk result (λ b. bytes_of b ≡ bytes.now) }
+    ensures of_image { IfOk result (λ b. IsImageBlock b) }
+    ensures expected { IfOk result (λ b. IsExpected expected b) }
+    ensures one_byte { OnOk result (NoByteHides bytes.now) }
 {
     let (checked, check) = split_check(bytes).ok_or(BlockFault::WrongLength)?;
     if check != check_of(checked) {
