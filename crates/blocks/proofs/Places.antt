@@ -8,17 +8,17 @@ use Rattle.blocks.specs.Blocks.{checked_bytes, block_bytes}
 use Rattle.blocks.specs.Tests.{number_at}
 
 module _ (v n c : ℕ) (ds : List ℕ) where
-  pub length-checked_bytes : length ds ≤ 502 → length (checked_bytes v n c ds) ≡ 510
+  pub length_checked_bytes : length ds ≤ 502 → length (checked_bytes v n c ds) ≡ 510
   unfolding checked_bytes
-  length-checked_bytes h = simp (length-append, length-replicate) (omega arith)
+  length_checked_bytes h = simp (length-append, length-replicate) (omega arith)
 
   pub length-block_bytes : length ds ≤ 502 → length (block_bytes v n c ds) ≡ 512
   unfolding block_bytes
-  length-block_bytes h = let k = length-checked_bytes h in simp length-append (omega arith)
+  length-block_bytes h = let k = length_checked_bytes h in simp length-append (omega arith)
 
   pub take-block_bytes : length ds ≤ 502 → take 510 (block_bytes v n c ds) ≡ checked_bytes v n c ds
   unfolding block_bytes
-  take-block_bytes h = take_at _ _ 510 (length-checked_bytes h)
+  take-block_bytes h = take_at _ _ 510 (length_checked_bytes h)
 
   pub version_at : number_at (block_bytes v n c ds) 0 ≡ v
   unfolding checked_bytes block_bytes
@@ -41,8 +41,8 @@ module _ (v n c : ℕ) (ds : List ℕ) where
   check_at h =
       let f = checked_bytes v n c ds in
       let s = check_of f in
-      let a : get_or (f ++ be16 s) 510 0 ≡ s / 256 = get_or-append_right f (be16 s) 510 510 0 (length-checked_bytes h) (omega arith) in
-      let b : get_or (f ++ be16 s) 511 0 ≡ s % 256 = get_or-append_right f (be16 s) 510 511 0 (length-checked_bytes h) (omega arith) in
+      let a : get_or (f ++ be16 s) 510 0 ≡ s / 256 = get_or-append_right f (be16 s) 510 510 0 (length_checked_bytes h) (omega arith) in
+      let b : get_or (f ++ be16 s) 511 0 ≡ s % 256 = get_or-append_right f (be16 s) 510 511 0 (length_checked_bytes h) (omega arith) in
       omega arith
 
   -- the data bytes

@@ -1,7 +1,9 @@
 -- The bytes of a block.
-use Rattle.std.specs.Prelude.{◌≡◌, ℕ, ◌+◌, ◌-◌, ◌<◌, ◌≤◌, ◌⊎◌, List, ◌++◌, length, replicate}
+use Rattle.std.specs.Prelude.{◌≡◌, ℕ, ◌+◌, ◌-◌, ◌<◌, ◌≤◌, ◌⊎◌, ◌≢◌, Ok, Err, Result, List, ◌++◌, length, replicate}
 use Rattle.bodies.specs.Numbers.{be16}
 use Rattle.blocks.specs.declared.block.Block.{Block}
+use Rattle.blocks.specs.declared.block.Unwritten.{Unwritten}
+use Rattle.blocks.specs.declared.block.Unwritten.TheVariants.{WrongData, WrongLength}
 use Rattle.blocks.specs.Checks.{check_of}
 
 -- the first 510: version, number, count, data length, the data, and zeros
@@ -24,3 +26,13 @@ pub record IsImageBlock (b : Block) : Type 0 where
   pub some : 1 ≤ length b.«data».now
   pub within : length b.«data».now ≤ 502
   pub full : (b.number + 1 ≡ b.count) ⊎ (length b.«data».now ≡ 502)
+
+-- a block has 1 to 502 data bytes
+abbrev pub HasData : Block → Type 0
+HasData b = (1 ≤ length b.«data».now) × (length b.«data».now ≤ 502)
+
+-- a block with data stands in the place of 512 lent bytes; lent bytes of another number, or of a block of too few or too many data, stay
+abbrev pub BlockWrote : Block → List ℕ → List ℕ → Result (Unit {0}) Unwritten → Type 0
+BlockWrote b old new (Ok _) = HasData b × (length old ≡ 512) × (new ≡ bytes_of b)
+BlockWrote b old new (Err WrongData) = (HasData b → ⊥) × (new ≡ old)
+BlockWrote b old new (Err WrongLength) = HasData b × (length old ≢ 512) × (new ≡ old)
