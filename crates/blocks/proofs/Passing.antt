@@ -5,13 +5,13 @@ use Rattle.std.proofs.lemmas.Bool.{eqb-true, leb-true, ltb-true, eq-eqb, lt-ltb,
 use Rattle.std.proofs.lemmas.List.{take-set-le, get_or-set_same, get_or-set_other, drop_at}
 use Rattle.std.specs.List.{list_all}
 use Rattle.blocks.specs.declared.block.Block.{Block}
-use Rattle.blocks.specs.declared.block.Expected.{Expected}
-use Rattle.blocks.specs.declared.block.Expected.TheVariants.{First, Next}
-use Rattle.blocks.specs.declared.block.BlockFault.{BlockFault}
-use Rattle.blocks.specs.declared.block.BlockFault.TheVariants.{WrongLength, WrongCheck, WrongNumber, WrongVersion, WrongData}
+use Rattle.blocks.specs.declared.block_test.Expected.{Expected}
+use Rattle.blocks.specs.declared.block_test.Expected.TheVariants.{First, Next}
+use Rattle.blocks.specs.declared.fault.BlockFault.{BlockFault}
+use Rattle.blocks.specs.declared.fault.BlockFault.TheVariants.{WrongLength, WrongCheck, WrongNumber, WrongVersion, WrongData}
 use Rattle.blocks.specs.Checks.{check_of}
 use Rattle.blocks.specs.Blocks.{block_bytes, bytes_of, IsImageBlock}
-use Rattle.blocks.specs.Tests.{number_at, is_numbered, has_version, is_filled, first_fault, IsExpected}
+use Rattle.blocks.specs.Tests.{number_at, is_numbered, has_version, is_filled, first_fault, IsExpected, PassesAs}
 use Rattle.blocks.specs.OneByte.{NoByteHides}
 use Rattle.blocks.proofs.Divisors.{check_moves}
 use Rattle.blocks.proofs.Places.{length-block_bytes, take-block_bytes, version_at, number_at_2, count_at, used_at, check_at, places_at, block_bytes_from}
@@ -90,8 +90,7 @@ module _ (bs : List ℕ) (e : Expected) (none : first_fault bs e ≡ None) where
       record {
         below = omega arith;
         most = omega arith;
-        some = omega arith;
-        within = omega arith;
+        has_data = (omega arith, omega arith);
         full = ⊎_elim (λ h. inl (omega arith)) (λ h. inr (l ∙ h)) u.2;
       }
 
@@ -139,7 +138,7 @@ expected_version First b h = refl
 expected_version (Next n c v) b h = eq-eqb _ _ h.2
 
 -- a written block of an image passes where it is expected
-pub written_passes : (b : Block) → IsImageBlock b → (e : Expected) → IsExpected e b → first_fault (bytes_of b) e ≡ None
+pub written_passes : (b : Block) → PassesAs b (bytes_of b)
 written_passes b f e h =
     let v = b.version in
     let n = b.number in
@@ -147,10 +146,10 @@ written_passes b f e h =
     let ds = b.«data».now in
     let xs = bytes_of b in
     let z = replicate (502 - length ds) 0 in
-    let has_length : length xs == 512 ≡ true = eq-eqb _ _ (length-block_bytes v n c ds f.within) in
-    let has_check : number_at xs 510 == check_of (take 510 xs) ≡ true = eq-eqb _ _ (check_at v n c ds f.within ∙ ap check_of (sym (take-block_bytes v n c ds f.within))) in
+    let has_length : length xs == 512 ≡ true = eq-eqb _ _ (length-block_bytes v n c ds f.has_data.1) in
+    let has_check : number_at xs 510 == check_of (take 510 xs) ≡ true = eq-eqb _ _ (check_at v n c ds f.has_data.1 ∙ ap check_of (sym (take-block_bytes v n c ds f.has_data.1))) in
     let full : (n + 1 == c || length ds == 502) ≡ true = ⊎_elim (λ p. or_left _ _ (eq-eqb _ _ p)) (λ p. or_right _ _ (eq-eqb _ _ p)) f.full in
     let filler : list_all (λ b. b == 0) (drop (length ds) (ds ++ z)) ≡ true = ap (list_all (λ b. b == 0)) (drop_at ds z (length ds) refl) ∙ zeros (502 - length ds) in
-    let filled : is_filled (ds ++ z) (length ds) (n + 1 == c) ≡ true = and_from _ _ (and_from _ _ (and_from _ _ (lt-ltb _ _ f.some) (le-leb _ _ f.within)) full) filler in
-    (λ i. row (has_length i) (has_check i) (is_numbered e (number_at_2 v n c ds i) (count_at v n c ds i)) (has_version e (version_at v n c ds i)) (is_filled (places_at v n c ds f.within i) (used_at v n c ds i) (number_at_2 v n c ds i + 1 == count_at v n c ds i)))
+    let filled : is_filled (ds ++ z) (length ds) (n + 1 == c) ≡ true = and_from _ _ (and_from _ _ (and_from _ _ (lt-ltb _ _ f.has_data.0) (le-leb _ _ f.has_data.1)) full) filler in
+    (λ i. row (has_length i) (has_check i) (is_numbered e (number_at_2 v n c ds i) (count_at v n c ds i)) (has_version e (version_at v n c ds i)) (is_filled (places_at v n c ds f.has_data.1 i) (used_at v n c ds i) (number_at_2 v n c ds i + 1 == count_at v n c ds i)))
     ∙ (λ i. row true true (expected_numbered e b f h i) (expected_version e b h i) (filled i))

@@ -68,7 +68,7 @@ module _ (bs : List ℕ) (long : length bs ≡ 512) (w : (i : ℕ) → get_or bs
   pub checked_bytes_from : (ds : List ℕ) → length ds ≡ number_at bs 6 → slice_range bs 8 510 ≡ ds ++ replicate (502 - length ds) 0 → checked_bytes (number_at bs 0) (number_at bs 2) (number_at bs 4) ds ≡ take 510 bs
   unfolding checked_bytes
   checked_bytes_from ds l p =
-      let z = replicate (502 - length ds) 0 in
+      let z : List ℕ = replicate (502 - length ds) 0 in
       (λ i. be16 (number_at bs 0) ++ be16 (number_at bs 2) ++ be16 (number_at bs 4) ++ be16 (l i) ++ ds ++ z)
       ∙ (λ i. header i ++ sym p i)
       ∙ (λ i. sym (take-take 8 510 bs (omega arith)) i ++ sym (drop-take 8 502 bs) i)

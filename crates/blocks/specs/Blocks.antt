@@ -19,19 +19,18 @@ block_bytes version number count used =
 abbrev pub bytes_of : Block → List ℕ
 bytes_of b = block_bytes b.version b.number b.count b.«data».now
 
--- a block of an image: of 1 to 15 blocks, each but the last is full
-pub record IsImageBlock (b : Block) : Type 0 where
-  pub below : b.number < b.count
-  pub most : b.count ≤ 15
-  pub some : 1 ≤ length b.«data».now
-  pub within : length b.«data».now ≤ 502
-  pub full : (b.number + 1 ≡ b.count) ⊎ (length b.«data».now ≡ 502)
-
 -- a block has 1 to 502 data bytes
 abbrev pub HasData : Block → Type 0
 HasData b = (1 ≤ length b.«data».now) × (length b.«data».now ≤ 502)
 
--- a block with data stands in the place of 512 lent bytes; lent bytes of another number, or of a block of too few or too many data, stay
+-- a block of an image: the count is 1 to 15, and all blocks but the last are full
+pub record IsImageBlock (b : Block) : Type 0 where
+  pub below : b.number < b.count
+  pub most : b.count ≤ 15
+  pub has_data : HasData b
+  pub full : (b.number + 1 ≡ b.count) ⊎ (length b.«data».now ≡ 502)
+
+-- a block with data stands in the place of 512 lent bytes; else they stay
 abbrev pub BlockWrote : Block → List ℕ → List ℕ → Result (Unit {0}) Unwritten → Type 0
 BlockWrote b old new (Ok _) = HasData b × (length old ≡ 512) × (new ≡ bytes_of b)
 BlockWrote b old new (Err WrongData) = (HasData b → ⊥) × (new ≡ old)

@@ -1,7 +1,7 @@
 -- The numbers of the faults of a block.
 use Rattle.std.specs.Prelude.{ℕ}
-use Rattle.blocks.specs.declared.block.BlockFault.{BlockFault}
-use Rattle.blocks.specs.declared.block.BlockFault.TheVariants.{WrongLength, WrongCheck, WrongNumber, WrongVersion, WrongData}
+use Rattle.blocks.specs.declared.fault.BlockFault.{BlockFault}
+use Rattle.blocks.specs.declared.fault.BlockFault.TheVariants.{WrongLength, WrongCheck, WrongNumber, WrongVersion, WrongData}
 
 abbrev pub fault_number : BlockFault → ℕ
 fault_number WrongLength = 14

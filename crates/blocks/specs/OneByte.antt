@@ -1,7 +1,7 @@
 -- What the check is for: no change of one byte goes unseen.
 use Rattle.std.specs.Prelude.{◌≡◌, ◌≢◌, ℕ, ◌<◌, List, Some, slice_index, slice_set}
-use Rattle.blocks.specs.declared.block.Expected.{Expected}
-use Rattle.blocks.specs.declared.block.BlockFault.TheVariants.{WrongCheck}
+use Rattle.blocks.specs.declared.block_test.Expected.{Expected}
+use Rattle.blocks.specs.declared.fault.BlockFault.TheVariants.{WrongCheck}
 use Rattle.blocks.specs.Tests.{first_fault}
 
 -- a block's bytes with any one of them changed to another value are refused for their check, whatever is expected

@@ -2,11 +2,12 @@
 use Rattle.std.specs.Prelude.{◌≡◌, ℕ, ◌+◌, ◌*◌, Bool, true, not, ◌&&◌, ◌||◌, List, length, take, drop, Some, None, Option, if◌then◌else◌, nat_lt, nat_le, ◌==◌, slice_index, slice_range}
 use Rattle.std.specs.List.{list_all}
 use Rattle.blocks.specs.declared.block.Block.{Block}
-use Rattle.blocks.specs.declared.block.Expected.{Expected}
-use Rattle.blocks.specs.declared.block.Expected.TheVariants.{First, Next}
-use Rattle.blocks.specs.declared.block.BlockFault.{BlockFault}
-use Rattle.blocks.specs.declared.block.BlockFault.TheVariants.{WrongLength, WrongCheck, WrongNumber, WrongVersion, WrongData}
+use Rattle.blocks.specs.declared.block_test.Expected.{Expected}
+use Rattle.blocks.specs.declared.block_test.Expected.TheVariants.{First, Next}
+use Rattle.blocks.specs.declared.fault.BlockFault.{BlockFault}
+use Rattle.blocks.specs.declared.fault.BlockFault.TheVariants.{WrongLength, WrongCheck, WrongNumber, WrongVersion, WrongData}
 use Rattle.blocks.specs.Checks.{check_of}
+use Rattle.blocks.specs.Blocks.{IsImageBlock}
 
 -- the number in the two bytes at a place
 abbrev pub number_at : List ℕ → ℕ → ℕ
@@ -45,3 +46,8 @@ first_fault bytes expected =
 abbrev pub IsExpected : Expected → Block → Type 0
 IsExpected First b = b.number ≡ 0
 IsExpected (Next number count version) b = (b.number ≡ number) × (b.count ≡ count) × (b.version ≡ version)
+
+-- bytes are those of a block that passes wherever it is expected, if it is one of an image
+abbrev pub PassesAs : Block → List ℕ → Type 0
+PassesAs b bytes =
+    IsImageBlock b → (expected : Expected) → IsExpected expected b → first_fault bytes expected ≡ None

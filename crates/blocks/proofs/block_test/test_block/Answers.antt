@@ -2,7 +2,7 @@ use Rattle.std.proofs.Common.{◌≡◌, None, arith, rules}
 use Rattle.std.proofs.lemmas.Bool.Decides.{nat_tests}
 use Rattle.blocks.specs.Tests.{first_fault}
 use Rattle.blocks.proofs.Passing.{says, of_image, no_byte_hides}
-use Rattle.blocks.proofs.block.test_block.Goals as goal
+use Rattle.blocks.proofs.block_test.test_block.Goals as goal
 
 pub returns-then-check-check_of-clause-fault : goal.returns-then-check-check_of-clause-fault
 returns-then-check-check_of-clause-fault c = grind (arith, nat_tests)
