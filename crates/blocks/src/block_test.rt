@@ -99,6 +99,7 @@ pub fn test_block(bytes: &[u8], expected: Expected) -> Result<Block<'_>, BlockFa
     if check != check_of(checked) {
         return Err(BlockFault::WrongCheck);
     }
+    // By place, as the format has them: the toolchain does not cover a pattern that also takes the rest of an array behind a reference.
     let version = number_at(bytes, 0);
     let number = number_at(bytes, 2);
     let count = number_at(bytes, 4);
