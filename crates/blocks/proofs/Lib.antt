@@ -1,0 +1,4 @@
+pub mod Sums
+pub mod Divisors
+pub mod Places
+pub mod Passing
