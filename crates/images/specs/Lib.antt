@@ -1,0 +1,4 @@
+pub use Rattle.bodies.specs.Numbers
+pub mod Contents
+pub mod Images
+pub mod Writes

@@ -1,0 +1,5 @@
+// The image that a spare unit is filled from: a unit's counts, its operator's state and its held results, in 1 to 15 blocks.
+#![tactic(auto)]
+
+pub mod counts;
+pub mod write;
