@@ -2,6 +2,8 @@
 #![tactic(auto)]
 
 #[cfg(test)]
+mod block_tests;
+#[cfg(test)]
 mod bodies_tests;
 #[cfg(test)]
 mod day_tests;
