@@ -1,12 +1,17 @@
 ghost use Rattle.std.specs.Prelude.{◌≡◌, ◌+◌, ◌-◌, ◌*◌, ◌≤◌, length, take, MatchOption, ◌<◌, true, false};
-ghost use Rattle.images.specs.Contents.{contents_of, held_by};
-ghost use Rattle.images.specs.Writes.{DataPut};
+ghost use Rattle.images.specs.Contents.{contents_of, data_of, is_sound, held_by};
+ghost use Rattle.images.specs.Images.{part};
+ghost use Rattle.images.specs.Writes.{Unheld, PutData, BlocksWrote, ImageWrote};
 ghost use Rattle.numbered.specs.Buffers.{has_places};
 
 use super::counts::{Counts, FRONT_LENGTH};
+use blocks::block::{Block, MOST_DATA};
 use bodies::body::Body;
 use numbered::numbers::Numbers;
 use operators::operator::Operator;
+
+// A block has so many bytes.
+pub const BLOCK_LENGTH: usize = 512;
 
 // No image has more data: those of 15 blocks.
 pub const MEMORY_LENGTH: usize = 7530;
@@ -45,7 +50,7 @@ fn put_data<P: Operator>(
     table: &[u8],
     out: &mut [u8; MEMORY_LENGTH],
 ) -> Result<usize, Unwritten>
-    ensures { DataPut P.Out.Body.size P.Operator.longest (contents_of P.Out.Body.size records_run (P.Operator.written (P.Operator.state operator.now)) results.now table.now) (has_places results.now.limit P.Out.Body.size (length table.now)) out.new result }
+    ensures { PutData P.Out.Body.size P.Operator.longest (contents_of P.Out.Body.size records_run (P.Operator.written (P.Operator.state operator.now)) results.now table.now) (has_places results.now.limit P.Out.Body.size (length table.now)) out.new result }
 {
     if P::longest() == u32::MAX {
         return Err(Unwritten::OutOfBounds);
@@ -67,4 +72,53 @@ fn put_data<P: Operator>(
     let _ = operator.write_state(state);
     put_held::<P::Out>(results, table, held).ok_or(Unwritten::ShortTable)?;
     Ok(FRONT_LENGTH + state_length + held_length)
+}
+
+// The data of a block.
+fn part(bytes: &[u8], number: usize) -> &[u8]
+    requires { 502 * number ≤ length bytes.now }
+    ensures { result.now ≡ part bytes.now number }
+{
+    let behind = &bytes[MOST_DATA * number..];
+    &behind[..behind.len().min(MOST_DATA)]
+}
+
+// Writes the blocks of these data over the first of the memory's bytes, and answers how many.
+fn write_blocks(version: u16, bytes: &[u8], memory: &mut [u8]) -> Result<usize, Unwritten>
+    requires { length bytes.now ≤ 7530 }
+    ensures { BlocksWrote version bytes.now memory.old memory.new result }
+{
+    let count = bytes.len().div_ceil(MOST_DATA);
+    if memory.len() < BLOCK_LENGTH * count {
+        return Err(Unwritten::ShortMemory);
+    }
+    for number in 0..count {
+        let block = Block {
+            version,
+            number: number as u16,
+            count: count as u16,
+            data: part(bytes, number),
+        };
+        let at = BLOCK_LENGTH * number;
+        // A block that has data is not refused, in as many bytes as it has.
+        let _ = block.write(&mut memory[at..at + BLOCK_LENGTH]);
+    }
+    Ok(count)
+}
+
+// Writes the image of a unit that ran so many records over the first of the memory's bytes, and answers how many blocks it has.
+// The table is the one that the buffer of results is lent.
+pub fn write_image<P: Operator>(
+    version: u16,
+    records_run: u32,
+    operator: &P,
+    results: &Numbers,
+    table: &[u8],
+    memory: &mut [u8],
+) -> Result<usize, Unwritten>
+    ensures { ImageWrote P.Out.Body.size P.Operator.longest (contents_of P.Out.Body.size records_run (P.Operator.written (P.Operator.state operator.now)) results.now table.now) (has_places results.now.limit P.Out.Body.size (length table.now)) version memory.old memory.new result }
+{
+    let mut data = [0u8; MEMORY_LENGTH];
+    let length = put_data::<P>(records_run, operator, results, table, &mut data)?;
+    write_blocks(version, &data[..length], memory)
 }
