@@ -1,4 +1,6 @@
 pub use Rattle.bodies.specs.Numbers
 pub mod Contents
 pub mod Images
+pub mod Faults
 pub mod Writes
+pub mod Takes

@@ -53,4 +53,20 @@ impl Counts {
             out,
         );
     }
+
+    // The counts and the state's length that the first bytes write.
+    pub(crate) fn read(from: &[u8]) -> Option<(Counts, u32)>
+        ensures { MatchOption result (length from.now < 16) (λ r. take 16 from.now ≡ front_of r.0 r.1) }
+    {
+        let (records_run, rest) = u32::take(from)?;
+        let (results_produced, rest) = u32::take(rest)?;
+        let (results_settled, rest) = u32::take(rest)?;
+        let (state_length, _) = u32::take(rest)?;
+        let counts = Counts {
+            records_run,
+            results_produced,
+            results_settled,
+        };
+        Some((counts, state_length))
+    }
 }
