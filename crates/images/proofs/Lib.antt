@@ -1,3 +1,4 @@
 pub mod Held
 pub mod Data
+pub mod Bodies
 pub mod Parts

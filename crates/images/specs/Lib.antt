@@ -4,3 +4,4 @@ pub mod Images
 pub mod Faults
 pub mod Writes
 pub mod Takes
+pub mod Installs

@@ -4,5 +4,6 @@
 pub mod complete;
 pub mod counts;
 pub mod fault;
+pub mod install;
 pub mod take;
 pub mod write;
