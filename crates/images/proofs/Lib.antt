@@ -2,3 +2,5 @@ pub mod Held
 pub mod Data
 pub mod Bodies
 pub mod Parts
+pub mod Contents
+pub mod Runs

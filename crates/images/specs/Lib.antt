@@ -5,3 +5,4 @@ pub mod Faults
 pub mod Writes
 pub mod Takes
 pub mod Installs
+pub mod Reads

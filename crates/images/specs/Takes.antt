@@ -4,8 +4,8 @@ use Rattle.blocks.specs.declared.block.Block.{Block}
 use Rattle.blocks.specs.declared.block_test.Expected.{Expected}
 use Rattle.blocks.specs.declared.block_test.Expected.TheVariants.{Next}
 use Rattle.blocks.specs.declared.fault.BlockFault.TheVariants.{WrongLength}
-use Rattle.blocks.specs.Blocks.{bytes_of}
-use Rattle.blocks.specs.Tests.{first_fault}
+use Rattle.blocks.specs.Blocks.{bytes_of, IsImageBlock}
+use Rattle.blocks.specs.Tests.{first_fault, IsExpected}
 use Rattle.images.specs.Contents.{Contents, data_of, is_sound}
 use Rattle.images.specs.declared.fault.ImageFault.{ImageFault}
 use Rattle.images.specs.declared.fault.ImageFault.TheVariants.{InBlock, WrongContents, Unreadable, ShortMemory}
@@ -33,9 +33,9 @@ abbrev pub laid : Block → List ℕ → List ℕ
 laid b memory = data_through b memory ++ drop (502 * b.number + length b.«data».now) memory
 
 module _ (size : ℕ) (expected : Expected) (bytes : List ℕ) where
-  -- the bytes are this block, which passes the test, and there is memory for any
+  -- the bytes are this block of an image, which is expected and passes the test, and there is memory for any
   abbrev pub IsTaken : List ℕ → Block → Type 0
-  IsTaken memory b = (bytes_of b ≡ bytes) × (first_fault bytes expected ≡ None) × (memory_length ≤ length memory)
+  IsTaken memory b = (bytes_of b ≡ bytes) × IsImageBlock b × IsExpected expected b × (first_fault bytes expected ≡ None) × (memory_length ≤ length memory)
 
   -- the block's data stand in the memory; the next is expected, or the image is complete and its data are those of what it holds
   abbrev pub Took : List ℕ → List ℕ → Taken → Type 0

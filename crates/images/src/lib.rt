@@ -5,5 +5,6 @@ pub mod complete;
 pub mod counts;
 pub mod fault;
 pub mod install;
+pub mod read;
 pub mod take;
 pub mod write;

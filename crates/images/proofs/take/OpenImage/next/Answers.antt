@@ -14,7 +14,7 @@ returns-in_err-counts g c =
     let none : c.read_front.result ≡ None = search rules in
     let is : c.from_residual-in_err-counts.result ≡ Err WrongContents = search rules in
     let no = rw none at c.read_front.ensures in
-    rw is ((b, (f.says, sym f.fault, c.if-memory-lt-MEMORY_LENGTH.false), last, λ k sound e. no k sound (ap length e ∙ whole ∙ omega (arith, c.from.ensures)) (ap (take 16) e ∙ sym c.front.ensures)), refl)
+    rw is ((b, (f.says, f.of_image, f.expected, sym f.fault, c.if-memory-lt-MEMORY_LENGTH.false), last, λ k sound e. no k sound (ap length e ∙ whole ∙ omega (arith, c.from.ensures)) (ap (take 16) e ∙ sym c.front.ensures)), refl)
 
 pub returns : goal.returns
 returns g c =
@@ -30,4 +30,4 @@ returns g c =
     let front = sym c.front.ensures ∙ r.0 in
     let is = c.put_block-2.ensures in
     let rest = drop (502 * b.number + length b.«data».now) old in
-    (b, (f.says, sym f.fault, c.if-memory-lt-MEMORY_LENGTH.false), is, last, refl, sound_in_memory k.counts k.state_length k.held_length (data_through b old) rest c.put_block-2.new.memory is long g.B.Body.size r.1 r.2, data_in_memory k.counts k.state_length k.held_length (data_through b old) rest c.put_block-2.new.memory is long front)
+    (b, (f.says, f.of_image, f.expected, sym f.fault, c.if-memory-lt-MEMORY_LENGTH.false), is, last, refl, sound_in_memory k.counts k.state_length k.held_length (data_through b old) rest c.put_block-2.new.memory is long g.B.Body.size r.1 r.2, data_in_memory k.counts k.state_length k.held_length (data_through b old) rest c.put_block-2.new.memory is long front)
