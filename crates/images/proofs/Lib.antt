@@ -4,3 +4,4 @@ pub mod Bodies
 pub mod Parts
 pub mod Contents
 pub mod Runs
+pub mod Fresh

@@ -6,3 +6,5 @@ pub mod Writes
 pub mod Takes
 pub mod Installs
 pub mod Reads
+pub mod Restores
+pub mod Fresh

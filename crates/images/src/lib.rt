@@ -6,5 +6,6 @@ pub mod counts;
 pub mod fault;
 pub mod install;
 pub mod read;
+pub mod restore;
 pub mod take;
 pub mod write;

@@ -1,5 +1,6 @@
 ghost use Rattle.std.specs.Prelude.{◌≡◌, ◌+◌, ◌-◌, ◌*◌, ◌≤◌, length, take, MatchOption, ◌<◌, true, false};
 ghost use Rattle.images.specs.Contents.{contents_of, data_of, is_sound, held_by};
+ghost use Rattle.images.specs.Fresh.{FreshImage};
 ghost use Rattle.images.specs.Images.{part};
 ghost use Rattle.images.specs.Writes.{Unheld, PutData, BlocksWrote, ImageWrote};
 ghost use Rattle.numbered.specs.Buffers.{has_places};
@@ -108,6 +109,7 @@ fn write_blocks(version: u16, bytes: &[u8], memory: &mut [u8]) -> Result<usize, 
 
 // Writes the image of a unit that ran so many records over the first of the memory's bytes, and answers how many blocks it has.
 // The table is the one that the buffer of results is lent.
+#[tactic(auto, using(crate::proofs::Fresh::fresh_image))]
 pub fn write_image<P: Operator>(
     version: u16,
     records_run: u32,
@@ -116,7 +118,8 @@ pub fn write_image<P: Operator>(
     table: &[u8],
     memory: &mut [u8],
 ) -> Result<usize, Unwritten>
-    ensures { ImageWrote P.Out.Body.size P.Operator.longest (contents_of P.Out.Body.size records_run (P.Operator.written (P.Operator.state operator.now)) results.now table.now) (has_places results.now.limit P.Out.Body.size (length table.now)) version memory.old memory.new result }
+    ensures wrote { ImageWrote P.Out.Body.size P.Operator.longest (contents_of P.Out.Body.size records_run (P.Operator.written (P.Operator.state operator.now)) results.now table.now) (has_places results.now.limit P.Out.Body.size (length table.now)) version memory.old memory.new result }
+    ensures fresh { FreshImage }
 {
     let mut data = [0u8; MEMORY_LENGTH];
     let length = put_data::<P>(records_run, operator, results, table, &mut data)?;
