@@ -8,6 +8,8 @@ mod bodies_tests;
 #[cfg(test)]
 mod day_tests;
 #[cfg(test)]
+mod image_tests;
+#[cfg(test)]
 mod link_tests;
 #[cfg(test)]
 mod message_tests;
