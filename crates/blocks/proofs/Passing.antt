@@ -11,7 +11,7 @@ use Rattle.blocks.specs.declared.fault.BlockFault.{BlockFault}
 use Rattle.blocks.specs.declared.fault.BlockFault.TheVariants.{WrongLength, WrongCheck, WrongNumber, WrongVersion, WrongData}
 use Rattle.blocks.specs.Checks.{check_of}
 use Rattle.blocks.specs.Blocks.{block_bytes, bytes_of, IsImageBlock}
-use Rattle.blocks.specs.Tests.{number_at, is_numbered, has_version, is_filled, first_fault, IsExpected, PassesAs}
+use Rattle.blocks.specs.Tests.{number_at, has_number, is_numbered, has_version, is_filled, first_fault, IsExpected, PassesAs}
 use Rattle.blocks.specs.OneByte.{NoByteHides}
 use Rattle.blocks.proofs.Divisors.{check_moves}
 use Rattle.blocks.proofs.Places.{length-block_bytes, take-block_bytes, version_at, number_at_2, count_at, used_at, check_at, places_at, block_bytes_from}
@@ -40,14 +40,9 @@ zeros_from (x ∷ xs) e =
     λ i. eqb-true x 0 p.0 i ∷ zeros_from xs p.1 i
 
 numbered : (e : Expected) (number count : ℕ) → is_numbered e number count ≡ true → (number < count) × (count ≤ 15)
-numbered First number count h =
+numbered e number count h =
     let p = and_parts _ _ h in
-    let q = and_parts _ _ p.0 in
-    (ltb-true _ _ q.1, leb-true _ _ p.1)
-numbered (Next n c v) number count h =
-    let p = and_parts _ _ h in
-    let q = and_parts _ _ p.0 in
-    (ltb-true _ _ q.1, leb-true _ _ p.1)
+    (ltb-true _ _ (and_parts _ _ p.0).1, leb-true _ _ p.1)
 
 module _ (bs : List ℕ) (e : Expected) (none : first_fault bs e ≡ None) where
   parts : (length bs == 512 ≡ true) × (number_at bs 510 == check_of (take 510 bs) ≡ true) × (is_numbered e (number_at bs 2) (number_at bs 4) ≡ true) × (has_version e (number_at bs 0) ≡ true) × (is_filled (slice_range bs 8 510) (number_at bs 6) (number_at bs 2 + 1 == number_at bs 4) ≡ true)
@@ -128,10 +123,13 @@ module _ (bs : List ℕ) (e : Expected) (none : first_fault bs e ≡ None) where
       (λ behind. tail_moves w k b behind lt new ne (e ∙ ap check_of (take-set-le 510 bs k b behind) ∙ sym sums))
       (cases_lt k 510))
 
+expected_number : (e : Expected) (b : Block) → IsExpected e b → has_number e b.number b.count ≡ true
+expected_number First b h = eq-eqb _ _ h
+expected_number (Next n c v) b h = and_from _ _ (eq-eqb _ _ h.0) (eq-eqb _ _ h.1)
+
 expected_numbered : (e : Expected) (b : Block) → IsImageBlock b → IsExpected e b → is_numbered e b.number b.count ≡ true
-expected_numbered First b f h = and_from _ _ (and_from _ _ (eq-eqb _ _ h) (lt-ltb _ _ f.below)) (le-leb _ _ f.most)
-expected_numbered (Next n c v) b f h =
-    and_from _ _ (and_from _ _ (and_from _ _ (eq-eqb _ _ h.0) (eq-eqb _ _ h.1)) (lt-ltb _ _ f.below)) (le-leb _ _ f.most)
+expected_numbered e b f h =
+    and_from _ _ (and_from _ _ (expected_number e b h) (lt-ltb _ _ f.below)) (le-leb _ _ f.most)
 
 expected_version : (e : Expected) (b : Block) → IsExpected e b → has_version e b.version ≡ true
 expected_version First b h = refl

@@ -6,15 +6,15 @@ use Rattle.blocks.specs.declared.block.Unwritten.{Unwritten}
 use Rattle.blocks.specs.declared.block.Unwritten.TheVariants.{WrongData, WrongLength}
 use Rattle.blocks.specs.Checks.{check_of}
 
--- the first 510: version, number, count, data length, the data, and zeros
+-- the first 510, where the data are these: version, number, count, data length, the data, and zeros
 unfoldable pub checked_bytes : ℕ → ℕ → ℕ → List ℕ → List ℕ
-checked_bytes version number count used =
-    be16 version ++ be16 number ++ be16 count ++ be16 (length used) ++ used ++ replicate (502 - length used) 0
+checked_bytes version number count bytes =
+    be16 version ++ be16 number ++ be16 count ++ be16 (length bytes) ++ bytes ++ replicate (502 - length bytes) 0
 
 -- these and their check
 unfoldable pub block_bytes : ℕ → ℕ → ℕ → List ℕ → List ℕ
-block_bytes version number count used =
-    checked_bytes version number count used ++ be16 (check_of (checked_bytes version number count used))
+block_bytes version number count bytes =
+    checked_bytes version number count bytes ++ be16 (check_of (checked_bytes version number count bytes))
 
 abbrev pub bytes_of : Block → List ℕ
 bytes_of b = block_bytes b.version b.number b.count b.«data».now

@@ -13,15 +13,19 @@ use Rattle.blocks.specs.Blocks.{IsImageBlock}
 abbrev pub number_at : List ℕ → ℕ → ℕ
 number_at bytes place = slice_index bytes place * 256 + slice_index bytes (place + 1)
 
--- the number is the one expected and below the count, which is at most 15 and, past block 0, as expected
-abbrev pub is_numbered : Expected → ℕ → ℕ → Bool
-is_numbered First number count = number == 0 && nat_lt number count && nat_le count 15
-is_numbered (Next n c _) number count = number == n && count == c && nat_lt number count && nat_le count 15
+-- the number is the one expected and, past block 0, the count too
+abbrev pub has_number : Expected → ℕ → ℕ → Bool
+has_number First number count = number == 0
+has_number (Next n c _) number count = number == n && count == c
 
 -- past block 0 the version is as expected
 abbrev pub has_version : Expected → ℕ → Bool
 has_version First version = true
 has_version (Next _ _ v) version = version == v
+
+-- the number is also below the count, which is at most 15
+abbrev pub is_numbered : Expected → ℕ → ℕ → Bool
+is_numbered expected number count = has_number expected number count && nat_lt number count && nat_le count 15
 
 -- of the data bytes 1 to 502 are used, all 502 but in the last block, and the others are zero
 abbrev pub is_filled : List ℕ → ℕ → Bool → Bool

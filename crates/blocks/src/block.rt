@@ -11,6 +11,9 @@ use bodies::numbers::Number;
 // A block has no more data bytes.
 pub const MOST_DATA: usize = 502;
 
+// An image has no more blocks.
+pub const MOST_BLOCKS: u16 = 15;
+
 // What a block says, with the data where they lie.
 #[derive(Clone, Copy, PartialEq, Debug)]
 pub struct Block<'a> {

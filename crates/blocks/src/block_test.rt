@@ -3,15 +3,12 @@ ghost use Rattle.std.specs.List.{list_all};
 ghost use Rattle.std.specs.Result.{result_err};
 ghost use Rattle.blocks.specs.Blocks.{bytes_of, IsImageBlock};
 ghost use Rattle.blocks.specs.OneByte.{NoByteHides};
-ghost use Rattle.blocks.specs.Tests.{number_at, is_numbered, has_version, is_filled, first_fault, IsExpected};
+ghost use Rattle.blocks.specs.Tests.{number_at, has_number, has_version, is_filled, first_fault, IsExpected};
 
-use super::block::Block;
+use super::block::{Block, MOST_BLOCKS};
 use super::check::{CHECKED_LENGTH, check_of};
 use super::fault::BlockFault;
 use bodies::numbers::Number;
-
-// An image has no more blocks.
-pub const MOST_BLOCKS: u16 = 15;
 
 // Which block is expected.
 #[derive(Clone, Copy, PartialEq, Debug)]
@@ -27,21 +24,21 @@ pub enum Expected {
 }
 
 impl Expected {
-    // Whether the number and the count are as expected, and those of a block of an image.
-    fn is_numbered(self, number: u16, count: u16) -> bool
-        ensures { result ≡ is_numbered self number count }
+    // Whether it is this number and, past block 0, this count.
+    fn has_number(self, number: u16, count: u16) -> bool
+        ensures { result ≡ has_number self number count }
     {
-        let expected = match self {
+        match self {
             Expected::First => number == 0,
             Expected::Next {
                 number: n,
                 count: c,
                 ..
             } => number == n && count == c,
-        };
-        expected && number < count && count <= MOST_BLOCKS
+        }
     }
 
+    // Whether it is, past block 0, this version.
     fn has_version(self, version: u16) -> bool
         ensures { result ≡ has_version self version }
     {
@@ -90,6 +87,7 @@ fn used_data(places: &[u8], used: u16, is_last: bool) -> Option<&[u8]>
 }
 
 // The block test: what bytes say that are the block expected, or their first fault.
+#[tactic(auto, using(std::proofs::lemmas::Bool::Decides::nat_tests))]
 pub fn test_block(bytes: &[u8], expected: Expected) -> Result<Block<'_>, BlockFault>
     ensures fault { result_err result ≡ first_fault bytes.now expected }
     ensures says { IfOk result (λ b. bytes_of b ≡ bytes.now) }
@@ -101,10 +99,11 @@ pub fn test_block(bytes: &[u8], expected: Expected) -> Result<Block<'_>, BlockFa
     if check != check_of(checked) {
         return Err(BlockFault::WrongCheck);
     }
+    // By place, as the format has them: the toolchain does not cover a pattern that also takes the rest of an array behind a reference.
     let version = number_at(bytes, 0);
     let number = number_at(bytes, 2);
     let count = number_at(bytes, 4);
-    if !expected.is_numbered(number, count) {
+    if !expected.has_number(number, count) || number >= count || count > MOST_BLOCKS {
         return Err(BlockFault::WrongNumber);
     }
     if !expected.has_version(version) {

@@ -24,12 +24,7 @@ fn expected_of(number: u16, count: u16, version: u16) -> Expected
 
 // The block test: 0, or the number of the first fault.
 #[unsafe(no_mangle)]
-pub extern "C" fn lampgrouse_test_block(
-    block: &[u8],
-    number: u16,
-    count: u16,
-    version: u16,
-) -> u32
+pub extern "C" fn lampgrouse_test_block(block: &[u8], number: u16, count: u16, version: u16) -> u32
     ensures answer { result ≡ answer_of (first_fault block.now (expected_of number count version)) }
     ensures one_byte { result ≡ 0 → NoByteHides block.now }
 {

@@ -12,6 +12,7 @@ const SECOND: Block<'static> = Block {
     count: 3,
     data: &[9; 502],
 };
+
 const SECOND_EXPECTED: Expected = Expected::Next {
     number: 1,
     count: 3,
@@ -60,14 +61,20 @@ fn bytes_of_255_have_the_check_8628(rt: HostRuntime) {
 #[test]
 fn a_block_without_data_or_of_too_many_is_not_written(rt: HostRuntime) {
     let mut bytes = [9u8; 512];
-    let none = Block { data: &[], ..SECOND };
+    let none = Block {
+        data: &[],
+        ..SECOND
+    };
     assert_eq!(rt; none.write(&mut bytes), Err(Unwritten::WrongData));
     let many = Block {
         data: &[1; 503],
         ..SECOND
     };
     assert_eq!(rt; many.write(&mut bytes), Err(Unwritten::WrongData));
-    assert_eq!(rt; SECOND.write(&mut bytes[0..511]), Err(Unwritten::WrongLength));
+    assert_eq!(rt;
+        SECOND.write(&mut bytes[0..511]),
+        Err(Unwritten::WrongLength)
+    );
     assert_eq!(rt; many.write(&mut bytes[0..511]), Err(Unwritten::WrongData));
     assert_eq!(rt; bytes, [9; 512]);
 }
@@ -77,22 +84,40 @@ fn each_fault_is_answered(rt: HostRuntime) -> Result<(), Fail> {
     assert_eq!(rt; fault_of(SECOND, SECOND_EXPECTED)?, None);
     let mut bytes = [0u8; 512];
     SECOND.write(&mut bytes)?;
-    assert_eq!(rt; test_block(&bytes[0..511], SECOND_EXPECTED).err(), Some(BlockFault::WrongLength));
+    assert_eq!(rt;
+        test_block(&bytes[0..511], SECOND_EXPECTED).err(),
+        Some(BlockFault::WrongLength)
+    );
     bytes[8] = 8;
-    assert_eq!(rt; test_block(&bytes, SECOND_EXPECTED).err(), Some(BlockFault::WrongCheck));
-    assert_eq!(rt; fault_of(SECOND, Expected::First)?, Some(BlockFault::WrongNumber));
+    assert_eq!(rt;
+        test_block(&bytes, SECOND_EXPECTED).err(),
+        Some(BlockFault::WrongCheck)
+    );
+    assert_eq!(rt;
+        fault_of(SECOND, Expected::First)?,
+        Some(BlockFault::WrongNumber)
+    );
     let of_two = Block { count: 2, ..SECOND };
-    assert_eq!(rt; fault_of(of_two, SECOND_EXPECTED)?, Some(BlockFault::WrongNumber));
+    assert_eq!(rt;
+        fault_of(of_two, SECOND_EXPECTED)?,
+        Some(BlockFault::WrongNumber)
+    );
     let other_version = Block {
         version: 8,
         ..SECOND
     };
-    assert_eq!(rt; fault_of(other_version, SECOND_EXPECTED)?, Some(BlockFault::WrongVersion));
+    assert_eq!(rt;
+        fault_of(other_version, SECOND_EXPECTED)?,
+        Some(BlockFault::WrongVersion)
+    );
     let unfull = Block {
         data: &[9; 501],
         ..SECOND
     };
-    assert_eq!(rt; fault_of(unfull, SECOND_EXPECTED)?, Some(BlockFault::WrongData));
+    assert_eq!(rt;
+        fault_of(unfull, SECOND_EXPECTED)?,
+        Some(BlockFault::WrongData)
+    );
     Ok(())
 }
 
@@ -146,7 +171,11 @@ fn an_image_has_at_most_fifteen_blocks(rt: HostRuntime) -> Result<(), Fail> {
             },
         };
         let fits = number < count && count <= 15;
-        let fault = if fits { None } else { Some(BlockFault::WrongNumber) };
+        let fault = if fits {
+            None
+        } else {
+            Some(BlockFault::WrongNumber)
+        };
         assert_eq!(rt; fault_of(block, expected)?, fault);
     }
     Ok(())
@@ -165,15 +194,33 @@ fn the_first_of_several_faults_is_answered(rt: HostRuntime) -> Result<(), Fail> 
         count,
         version,
     };
-    assert_eq!(rt; fault_of(block, next(1, 3, 7))?, Some(BlockFault::WrongNumber));
-    assert_eq!(rt; fault_of(block, next(2, 3, 7))?, Some(BlockFault::WrongNumber));
-    assert_eq!(rt; fault_of(block, next(2, 4, 7))?, Some(BlockFault::WrongVersion));
-    assert_eq!(rt; fault_of(block, next(2, 4, 8))?, Some(BlockFault::WrongData));
+    assert_eq!(rt;
+        fault_of(block, next(1, 3, 7))?,
+        Some(BlockFault::WrongNumber)
+    );
+    assert_eq!(rt;
+        fault_of(block, next(2, 3, 7))?,
+        Some(BlockFault::WrongNumber)
+    );
+    assert_eq!(rt;
+        fault_of(block, next(2, 4, 7))?,
+        Some(BlockFault::WrongVersion)
+    );
+    assert_eq!(rt;
+        fault_of(block, next(2, 4, 8))?,
+        Some(BlockFault::WrongData)
+    );
     let mut bytes = [0u8; 512];
     block.write(&mut bytes)?;
     bytes[511] = bytes[511].wrapping_add(1);
-    assert_eq!(rt; test_block(&bytes, next(1, 3, 7)).err(), Some(BlockFault::WrongCheck));
-    assert_eq!(rt; test_block(&bytes[1..512], next(1, 3, 7)).err(), Some(BlockFault::WrongLength));
+    assert_eq!(rt;
+        test_block(&bytes, next(1, 3, 7)).err(),
+        Some(BlockFault::WrongCheck)
+    );
+    assert_eq!(rt;
+        test_block(&bytes[1..512], next(1, 3, 7)).err(),
+        Some(BlockFault::WrongLength)
+    );
     Ok(())
 }
 
