@@ -16,35 +16,26 @@ use Rattle.std.proofs.lemmas.Bool.{cases_lt}
 use Rattle.images.specs.declared.complete.CompleteImage.{CompleteImage}
 use Rattle.images.specs.declared.fault.ImageFault.{ImageFault}
 use Rattle.images.specs.declared.fault.ImageFault.TheVariants.{InBlock, WrongContents, Unreadable, ShortMemory}
+use Rattle.images.specs.Runs.{number_of, IsNext, AreTaken, GoesOn, Going, GoneOn}
+use Rattle.images.specs.declared.take.Taken.{Taken}
+use Rattle.images.specs.declared.take.Taken.TheVariants.{Open, Complete}
 use Rattle.images.specs.Reads.{IsImage, ImageRead}
-use Rattle.images.specs.Takes.{data_through, laid, held_in, memory_length, IsTaken, Faulty}
+use Rattle.images.specs.Takes.{data_through, laid, held_in, memory_length, IsTaken, Took, Faulty}
 use Rattle.images.proofs.Contents.{same_contents, length_sound}
 use Rattle.images.proofs.Data.{length_through}
 use Rattle.images.proofs.Parts.{length_part, length_blocks, block_more, block_at, same_blocks, part_behind, same_block}
-
--- the number of the block that is expected
-abbrev pub number_of : Expected → ℕ
-number_of First = 0
-number_of (Next n c v) = n
-
--- the blocks taken so far are those of what lies in the memory
-abbrev pub AreTaken : Expected → List ℕ → List ℕ → Type 0
-AreTaken First blocks memory = Unit {0}
-AreTaken (Next n c v) blocks memory = take (512 * n) blocks ≡ blocks_from v c memory 0 n
-
--- of an image of these data the next block is expected, and the memory has the data of those before it
-abbrev pub GoesOn : ℕ → List ℕ → Expected → List ℕ → Type 0
-GoesOn v ds First memory = Unit {0}
-GoesOn v ds (Next n c v') memory = (n < count_of ds) × (c ≡ count_of ds) × (v' ≡ v) × (take (502 * n) memory ≡ take (502 * n) ds)
 
 pub expected_number : (e : Expected) (b : Block) → IsExpected e b → number_of e ≡ b.number
 expected_number First b h = sym h
 expected_number (Next n c v) b h = sym h.0
 
-taken_front : (e : Expected) (b : Block) (blocks memory : List ℕ) → IsExpected e b → AreTaken e blocks memory → take (512 * b.number) blocks ≡ blocks_from b.version b.count memory 0 b.number
+taken_front : (e : Expected) (b : Block) (blocks memory : List ℕ) → IsExpected e b → AreTaken blocks e memory → take (512 * b.number) blocks ≡ blocks_from b.version b.count memory 0 b.number
 taken_front First b blocks memory h t = (λ i. take (512 * h i) blocks) ∙ (λ i. blocks_from b.version b.count memory 0 (sym h i))
 taken_front (Next n c v) b blocks memory h t =
     (λ i. take (512 * h.0 i) blocks) ∙ t ∙ (λ i. blocks_from (sym h.2 i) (sym h.1 i) memory 0 (sym h.0 i))
+
+pub block_long : (b : Block) (bytes : List ℕ) → IsImageBlock b → bytes_of b ≡ bytes → length bytes ≡ 512
+block_long b bytes image is = ap length (sym is) ∙ length-block_bytes b.version b.number b.count b.«data».now image.has_data.1
 
 module _ (e : Expected) (b : Block) (blocks old : List ℕ) (image : IsImageBlock b) (expected : IsExpected e b) (room : 502 * b.number ≤ length old) where
   abbrev n : ℕ
@@ -64,7 +55,7 @@ module _ (e : Expected) (b : Block) (blocks old : List ℕ) (image : IsImageBloc
         ap (take (502 * n)) (append_assoc (take (502 * n) old) used rest) ∙ take_at (take (502 * n) old) (used ++ rest) (502 * n) l
 
     -- with this block, the blocks taken are those of what lies there then
-    pub taken_more : AreTaken e blocks old → bytes_of b ≡ take 512 (drop (512 * n) blocks) → take (512 * n + 512) blocks ≡ blocks_from b.version b.count now 0 (n + 1)
+    pub taken_more : AreTaken blocks e old → bytes_of b ≡ take 512 (drop (512 * n) blocks) → take (512 * n + 512) blocks ≡ blocks_from b.version b.count now 0 (n + 1)
     taken_more taken here =
         let v = b.version in
         let c = b.count in
@@ -75,7 +66,7 @@ module _ (e : Expected) (b : Block) (blocks old : List ℕ) (image : IsImageBloc
         ∙ sym (block_more v c now 0 n n (omega arith))
 
   -- the last block: they are the blocks of an image of just these data
-  pub taken_all : AreTaken e blocks old → bytes_of b ≡ take 512 (drop (512 * n) blocks) → n + 1 ≡ b.count → length blocks ≤ 512 * n + 512 → blocks ≡ image_bytes b.version (data_through b old)
+  pub taken_all : AreTaken blocks e old → bytes_of b ≡ take 512 (drop (512 * n) blocks) → n + 1 ≡ b.count → length blocks ≤ 512 * n + 512 → blocks ≡ image_bytes b.version (data_through b old)
   taken_all taken here last end =
       let ds = data_through b old in
       let l = length_through b old room in
@@ -119,12 +110,6 @@ module _ (e : Expected) (b : Block) (blocks old : List ℕ) (image : IsImageBloc
       through_all last = let s = says in through ∙ take_all (502 * n + 502) ds (omega (arith, s.2))
 
 module _ (size : ℕ) (blocks first : List ℕ) where
-  -- an image of which blocks were taken off these, into a memory that was this at first
-  pub record Going (e : Expected) (memory : List ℕ) : Type 0 where
-    pub taken : AreTaken e blocks memory
-    pub on : (v : ℕ) (c : Contents) → IsImage size v c blocks → GoesOn v (data_of c) e memory
-    pub behind : drop (502 * number_of e) memory ≡ drop (502 * number_of e) first
-
   -- the next block of a written image
   pub written_here : (small : size ≤ longest_body) (v : ℕ) (c : Contents) → IsImage size v c blocks → (n : ℕ) → n < count_of (data_of c) → take 512 (drop (512 * n) blocks) ≡ block_bytes v n (count_of (data_of c)) (part (data_of c) n)
   written_here small v c image n h =
@@ -139,7 +124,7 @@ module _ (size : ℕ) (blocks first : List ℕ) where
   is_expected (Next m k u) memory v ds b on n c w = (n, c ∙ sym on.1, w ∙ sym on.2)
 
   -- passes
-  pub passes_here : (small : size ≤ longest_body) (e : Expected) (memory : List ℕ) → Going e memory → (v : ℕ) (c : Contents) → IsImage size v c blocks → first_fault (take 512 (drop (512 * number_of e) blocks)) e ≡ None
+  pub passes_here : (small : size ≤ longest_body) (e : Expected) (memory : List ℕ) → Going size blocks first e memory → (v : ℕ) (c : Contents) → IsImage size v c blocks → first_fault (take 512 (drop (512 * number_of e) blocks)) e ≡ None
   passes_here small e memory going v c image =
       let ds = data_of c in
       let n = number_of e in
@@ -151,7 +136,7 @@ module _ (size : ℕ) (blocks first : List ℕ) where
       let is : IsImageBlock b = record { below = h; most = omega (arith, bounds.1); has_data = (omega arith, omega arith); full = elim (cases_lt (n + 1) (count_of ds)) [ inl more ↦ inr (omega arith) | inr last ↦ inl (omega arith) ] } in
       ap (λ xs. first_fault xs e) (written_here small v c image n h) ∙ written_passes b is e (is_expected e memory v ds b on refl refl refl)
 
-  module _ (small : size ≤ longest_body) (e : Expected) (old bytes : List ℕ) (going : Going e old) (b : Block) (taken : IsTaken size e bytes old b) (is : bytes ≡ take 512 (drop (512 * number_of e) blocks)) where
+  module _ (small : size ≤ longest_body) (e : Expected) (old bytes : List ℕ) (going : Going size blocks first e old) (b : Block) (taken : IsTaken size e bytes old b) (is : bytes ≡ take 512 (drop (512 * number_of e) blocks)) where
     at : number_of e ≡ b.number
     at = expected_number e b taken.2
 
@@ -168,9 +153,6 @@ module _ (size : ℕ) (blocks first : List ℕ) where
 
       there : bytes_of b ≡ block_bytes v b.number (count_of (data_of c)) (part (data_of c) b.number)
       there = here ∙ written_here small v c image b.number (let h = expects e old v (data_of c) some (going.on v c image) in let a = at in omega arith)
-
-    pub taken_long : length bytes ≡ 512
-    taken_long = ap length (sym taken.0) ∙ length-block_bytes b.version b.number b.count b.«data».now taken.1.has_data.1
 
     -- a written image ends with its last block
     pub ends : (v : ℕ) (c : Contents) → IsImage size v c blocks → b.number + 1 ≡ b.count → length blocks ≡ 512 * b.number + 512
@@ -189,7 +171,7 @@ module _ (size : ℕ) (blocks first : List ℕ) where
         ∙ drop-drop k (502 * b.number) first ∙ ap (λ m. drop m first) (sym is_n)
 
     -- one block more
-    pub going_more : (new : List ℕ) → new ≡ laid b old → b.number + 1 < b.count → Going (Next (b.number + 1) b.count b.version) new
+    pub going_more : (new : List ℕ) → new ≡ laid b old → b.number + 1 < b.count → Going size blocks first (Next (b.number + 1) b.count b.version) new
     going_more new lay more =
         let i = taken.1 in
         let rest = drop (502 * b.number + length b.«data».now) old in
@@ -215,7 +197,7 @@ module _ (size : ℕ) (blocks first : List ℕ) where
         )
 
   -- no block of a written image is refused
-  pub not_refused : (small : size ≤ longest_body) (e : Expected) (old bytes : List ℕ) → Going e old → bytes ≡ take 512 (drop (512 * number_of e) blocks) → (fault : ImageFault) → Faulty size e bytes old fault → memory_length ≤ length old → (v : ℕ) (c : Contents) → IsImage size v c blocks → ⊥
+  pub not_refused : (small : size ≤ longest_body) (e : Expected) (old bytes : List ℕ) → Going size blocks first e old → bytes ≡ take 512 (drop (512 * number_of e) blocks) → (fault : ImageFault) → Faulty size e bytes old fault → memory_length ≤ length old → (v : ℕ) (c : Contents) → IsImage size v c blocks → ⊥
   not_refused small e old bytes going is (InBlock f) faulty wide v c image =
       let z : None ≡ Some f = sym (passes_here small e old going v c image) ∙ ap (λ xs. first_fault xs e) (sym is) ∙ faulty.0 in
       cc
@@ -224,6 +206,16 @@ module _ (size : ℕ) (blocks first : List ℕ) where
       let room : 502 * b.number ≤ length old = omega (arith, taken.1.below, taken.1.most, wide) in
       never c image.0 (sym (through_all e b blocks old taken.1 taken.2 room v (data_of c) (some small e old bytes going b taken is v c image) (going.on v c image) (there small e old bytes going b taken is v c image) last))
   not_refused small e old bytes going is Unreadable faulty wide v c image = faulty
+
+  -- what taking the next block leaves
+  pub gone_on : (small : size ≤ longest_body) (e : Expected) (old new bytes : List ℕ) → Going size blocks first e old → IsNext blocks e bytes → (t : Taken) → Took size e bytes old new t → GoneOn size blocks first e old new (Ok t)
+  gone_on small e old new bytes going is (Open next) (b, taken, lay, more, expected) =
+      subst (λ (x : Expected). Going size blocks first x new) (sym expected) (going_more small e old bytes going b taken is new lay more)
+  gone_on small e old new bytes going is (Complete k) (b, taken, lay, last, version, sound, holds) =
+      let at = expected_number e b taken.2 in (
+        λ end. read_all small e old bytes going b taken is new k lay last version sound holds (omega arith),
+        λ beyond v c image. let l = ends small e old bytes going b taken is v c image last in omega arith,
+      )
 
 -- the bytes up to 512
 pub first_bytes : (left bytes : List ℕ) (m : ℕ) → m ≡ min (length left) 512 → bytes ≡ take m left → bytes ≡ take 512 left

@@ -6,5 +6,6 @@ pub mod Writes
 pub mod Takes
 pub mod Installs
 pub mod Reads
+pub mod Runs
 pub mod Restores
 pub mod Fresh

@@ -10,6 +10,10 @@ use Rattle.images.specs.declared.fault.ImageFault.{ImageFault}
 abbrev pub IsImage : (size version : ℕ) → Contents → List ℕ → Type 0
 IsImage size version c blocks = (is_sound size c ≡ true) × (blocks ≡ image_bytes version (data_of c))
 
+-- no sound contents wrote the bytes
+abbrev pub NoneWrote : (size : ℕ) → List ℕ → Type 0
+NoneWrote size blocks = (version : ℕ) (c : Contents) → IsImage size version c blocks → ⊥
+
 -- only that: what is read is what wrote just these blocks, and nothing else did; the memory behind its data is as it was.
 -- Round trip: with memory, no blocks that any sound contents wrote are refused.
 abbrev pub ImageRead : (size : ℕ) → List ℕ → (old new : List ℕ) → Result CompleteImage ImageFault → Type 0
@@ -17,4 +21,4 @@ ImageRead size blocks old new (Ok k) =
     IsImage size k.version (held_in k new) blocks
     × ((version : ℕ) (c : Contents) → IsImage size version c blocks → (version ≡ k.version) × (c ≡ held_in k new))
     × (drop (length (data_of (held_in k new))) new ≡ drop (length (data_of (held_in k new))) old)
-ImageRead size blocks old new (Err _) = memory_length ≤ length old → (version : ℕ) (c : Contents) → IsImage size version c blocks → ⊥
+ImageRead size blocks old new (Err _) = memory_length ≤ length old → NoneWrote size blocks

@@ -12,7 +12,6 @@ use bodies::body::Body;
 pub fn read_image<B: Body>(blocks: &[u8], memory: &mut [u8]) -> Result<CompleteImage, ImageFault>
     ensures { ImageRead B.Body.size blocks.now memory.old memory.new result }
 {
-    prove!(B::size() <= 40);
     let mut image = OpenImage::new();
     let mut left = blocks;
     loop {

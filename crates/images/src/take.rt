@@ -1,6 +1,7 @@
-ghost use Rattle.std.specs.Prelude.{◌≡◌, ◌+◌, ◌-◌, ◌*◌, ◌<◌, ◌≤◌, length, take, true, MatchOption, MatchResult, List, ◌≢◌};
+ghost use Rattle.std.specs.Prelude.{◌≡◌, ℕ, ◌+◌, ◌-◌, ◌*◌, ◌<◌, ◌≤◌, length, take, true, MatchOption, MatchResult, List, ◌≢◌};
 ghost use Rattle.blocks.specs.declared.block_test.Expected.TheVariants.{First};
 ghost use Rattle.images.specs.Contents.{Contents, front_of, data_of, are_sound, is_sound};
+ghost use Rattle.images.specs.Runs.{IsNext, Going, GoneOn};
 ghost use Rattle.images.specs.Takes.{data_through, laid, Took, Faulty};
 
 use super::complete::CompleteImage;
@@ -13,7 +14,7 @@ use blocks::fault::BlockFault;
 use bodies::body::Body;
 
 // An image of which blocks are still to come: take the others first.
-#[derive(Drop)]
+#[derive(Drop, Debug)]
 pub struct OpenImage {
     expected: Expected,
 }
@@ -26,7 +27,7 @@ pub enum Taken {
 }
 
 // A block that was not taken, and the image as it was.
-#[derive(Drop)]
+#[derive(Drop, Debug)]
 pub struct Refused {
     pub image: OpenImage,
     pub fault: ImageFault,
@@ -70,7 +71,8 @@ fn put_block(block: Block<'_>, memory: &mut [u8])
 impl OpenImage {
     // An image of which every block is to come.
     pub fn new() -> OpenImage
-        ensures { result.expected ≡ First }
+        ensures first { result.expected ≡ First }
+        ensures run { (size : ℕ) (blocks memory : List ℕ) → Going size blocks memory result.expected memory }
     {
         OpenImage {
             expected: Expected::First,
@@ -114,8 +116,11 @@ impl OpenImage {
 
     // One block more, whose data go into the memory; the last completes the image.
     pub fn take<B: Body>(self, bytes: &[u8], memory: &mut [u8]) -> Result<Taken, Refused>
-        ensures { MatchResult result (Took B.Body.size self.expected bytes.now memory.old memory.new) (λ e. Faulty B.Body.size self.expected bytes.now memory.old e.fault × (e.image ≡ self) × (memory.new ≡ memory.old)) }
+        ensures answer { MatchResult result (Took B.Body.size self.expected bytes.now memory.old memory.new) (λ e. Faulty B.Body.size self.expected bytes.now memory.old e.fault × (e.image ≡ self) × (memory.new ≡ memory.old)) }
+        ensures run { (blocks first : List ℕ) → IsNext blocks self.expected bytes.now → Going B.Body.size blocks first self.expected memory.old → GoneOn B.Body.size blocks first self.expected memory.old memory.new result }
     {
+        // So the data of any image fit the memory.
+        prove!(B::size() <= 40);
         match self.next::<B>(bytes, memory) {
             Ok(taken) => Ok(taken),
             Err(fault) => Err(Refused { image: self, fault }),

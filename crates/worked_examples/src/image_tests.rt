@@ -39,22 +39,43 @@ fn fault_of(data: &[u8]) -> Result<Option<ImageFault>, Fail> {
 }
 
 #[test]
-fn the_image_of_new_sessions_is_a_block_of_17_bytes_and_check_166(rt: HostRuntime) -> Result<(), Fail> {
+fn the_image_of_new_sessions_is_a_block_of_17_bytes_and_check_166(
+    rt: HostRuntime,
+) -> Result<(), Fail> {
     let mut memory = [9u8; 513];
-    let count = write_image(0, 0, &Sessions::start(), &Numbers::new(4096), &[0u8; 2048], &mut memory)?;
+    let count = write_image(
+        0,
+        0,
+        &Sessions::start(),
+        &Numbers::new(4096),
+        &[0u8; 2048],
+        &mut memory,
+    )?;
     assert_eq!(rt; count, 1);
     assert_eq!(rt; &memory[0..8], [0, 0, 0, 0, 0, 1, 0, 17].as_slice());
-    assert_eq!(rt; &memory[8..25], [0, 0, 0, 0, 0, 0, 0, 0, 0, 0, 0, 0, 0, 0, 0, 1, 0].as_slice());
+    assert_eq!(rt;
+        &memory[8..25],
+        [0, 0, 0, 0, 0, 0, 0, 0, 0, 0, 0, 0, 0, 0, 0, 1, 0].as_slice()
+    );
     assert_eq!(rt; &memory[510..513], [0, 166, 9].as_slice());
     Ok(())
 }
 
 #[test]
-fn a_broken_block_is_refused_and_the_repaired_one_is_taken_and_installed(rt: HostRuntime) -> Result<(), Fail> {
+fn a_broken_block_is_refused_and_the_repaired_one_is_taken_and_installed(
+    rt: HostRuntime,
+) -> Result<(), Fail> {
     let mut sessions = Sessions::start();
     assert_eq!(rt; sessions.take(event(EventKind::Begin, 7, 5)), None);
     let mut block = [0u8; 512];
-    write_image(3, 1, &sessions, &Numbers::new(4096), &[0u8; 2048], &mut block)?;
+    write_image(
+        3,
+        1,
+        &sessions,
+        &Numbers::new(4096),
+        &[0u8; 2048],
+        &mut block,
+    )?;
     let mut memory = [9u8; 7530];
     block[30] = 1;
     let image = match OpenImage::new().take::<Call>(&block, &mut memory) {
@@ -81,7 +102,10 @@ fn a_broken_block_is_refused_and_the_repaired_one_is_taken_and_installed(rt: Hos
             results_settled: 0,
         }
     );
-    assert_eq!(rt; image.state(&memory)?, [1, 0, 0, 0, 7, 0, 0, 0, 5].as_slice());
+    assert_eq!(rt;
+        image.state(&memory)?,
+        [1, 0, 0, 0, 7, 0, 0, 0, 5].as_slice()
+    );
     assert_eq!(rt; image.held(&memory)?, [].as_slice());
     assert_eq!(rt; memory[25], 9);
     let mut spare = Sessions::start();
@@ -101,7 +125,10 @@ fn an_image_of_100_calls_has_2_blocks(rt: HostRuntime) -> Result<(), Fail> {
     let mut table = [0u8; 2048];
     let mut results = Numbers::new(4096);
     for line in 1..101u32 {
-        assert_eq!(rt; results.insert(&mut table, Call { line, seconds: 60 }), Ok(line));
+        assert_eq!(rt;
+            results.insert(&mut table, Call { line, seconds: 60 }),
+            Ok(line)
+        );
     }
     let mut blocks = [0u8; 1025];
     let count = write_image(0, 200, &Sessions::start(), &results, &table, &mut blocks)?;
@@ -165,12 +192,26 @@ fn a_state_that_sessions_refuse_is_not_installed(rt: HostRuntime) -> Result<(), 
 fn too_little_memory_is_refused(rt: HostRuntime) -> Result<(), Fail> {
     let mut memory = [9u8; 511];
     assert_eq!(rt;
-        write_image(0, 0, &Sessions::start(), &Numbers::new(4096), &[0u8; 2048], &mut memory),
+        write_image(
+            0,
+            0,
+            &Sessions::start(),
+            &Numbers::new(4096),
+            &[0u8; 2048],
+            &mut memory
+        ),
         Err(Unwritten::ShortMemory)
     );
     assert_eq!(rt; memory, [9; 511]);
     let mut blocks = [0u8; 512];
-    write_image(0, 0, &Sessions::start(), &Numbers::new(4096), &[0u8; 2048], &mut blocks)?;
+    write_image(
+        0,
+        0,
+        &Sessions::start(),
+        &Numbers::new(4096),
+        &[0u8; 2048],
+        &mut blocks,
+    )?;
     let fault = read_image::<Call>(&blocks, &mut [0u8; 7529]).err();
     assert_eq!(rt; fault, Some(ImageFault::ShortMemory));
     assert_eq!(rt; fault.map(u32::from), Some(21));

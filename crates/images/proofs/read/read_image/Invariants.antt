@@ -1,5 +1,5 @@
 use Rattle.std.proofs.Common.{◌≡◌, ◌*◌, length, drop}
-use Rattle.images.proofs.Runs.{number_of, Going}
+use Rattle.images.specs.Runs.{number_of, Going}
 use Rattle.images.proofs.read.read_image.Given as goal
 
 abbrev pub invariant-loop-next : goal.invariant-loop-next
