@@ -1,7 +1,7 @@
 -- What writing an image answers and leaves.
 use Rattle.std.specs.Prelude.{◌≡◌, ℕ, ◌*◌, ◌<◌, ◌⊎◌, Bool, true, false, Ok, Err, Result, List, ◌++◌, length, take, drop}
 use Rattle.operators.specs.Operators.{unbounded}
-use Rattle.images.specs.Contents.{Contents, data_of, is_sound}
+use Rattle.images.specs.Contents.{Contents, data_of, are_sound, is_sound}
 use Rattle.images.specs.Images.{count_of, image_bytes}
 use Rattle.images.specs.declared.write.Unwritten.{Unwritten}
 use Rattle.images.specs.declared.write.Unwritten.TheVariants.{OutOfBounds, ShortTable, ShortMemory}
@@ -13,10 +13,10 @@ BlocksWrote version bytes old new (Ok count) = (count ≡ count_of bytes) × (ne
 BlocksWrote version bytes old new (Err e) = (e ≡ ShortMemory) × (length old < 512 * count_of bytes) × (new ≡ old)
 
 module _ (size longest : ℕ) (c : Contents) (has_places : Bool) where
-  -- why contents are not written, of an operator whose states have at most so many bytes and a table that has every place or not
+  -- why contents are not written, of an operator whose states have at most so many bytes and a table that has every place or not: the first that is so
   abbrev pub Unheld : Unwritten → Type 0
-  Unheld OutOfBounds = (longest ≡ unbounded) ⊎ (is_sound size c ≡ false)
-  Unheld ShortTable = has_places ≡ false
+  Unheld OutOfBounds = (longest ≡ unbounded) ⊎ (are_sound size c.counts (length c.state) ≡ false)
+  Unheld ShortTable = (longest < unbounded) × (are_sound size c.counts (length c.state) ≡ true) × (has_places ≡ false)
   Unheld ShortMemory = ⊥
 
   -- the image of sound contents stands in the memory

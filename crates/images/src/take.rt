@@ -119,7 +119,7 @@ impl OpenImage {
         ensures answer { MatchResult result (Took B.Body.size self.expected bytes.now memory.old memory.new) (λ e. Faulty B.Body.size self.expected bytes.now memory.old e.fault × (e.image ≡ self) × (memory.new ≡ memory.old)) }
         ensures run { (blocks first : List ℕ) → IsNext blocks self.expected bytes.now → Going B.Body.size blocks first self.expected memory.old → GoneOn B.Body.size blocks first self.expected memory.old memory.new result }
     {
-        // So the data of any image fit the memory.
+        // No body is longer, so the data of any image fit the memory.
         prove!(B::size() <= 40);
         match self.next::<B>(bytes, memory) {
             Ok(taken) => Ok(taken),
