@@ -36,6 +36,7 @@ pub trait Body: Copy {
 }
 
 // How many bytes of a whole are left behind the parts; none where the parts are longer.
+#[inline]
 fn left_behind(parts: &[&[u8]], whole: usize) -> Option<usize>
     ensures { MatchOption result (whole < length (flat_map (λ p. p.now) parts.now)) (λ left. left + length (flat_map (λ p. p.now) parts.now) ≡ whole) }
 {
@@ -47,6 +48,7 @@ fn left_behind(parts: &[&[u8]], whole: usize) -> Option<usize>
 }
 
 // Parts put one behind another over lent bytes of just their number; else those stay.
+#[inline]
 pub fn put(parts: &[&[u8]], out: &mut [u8]) -> Result<(), WrongLength>
     ensures { Wrote (flat_map (λ p. p.now) parts.now) out.old out.new result }
 {

@@ -25,6 +25,7 @@ impl Body for Call {
         8
     }
 
+    #[inline]
     fn write(&self, out: &mut [u8]) -> Result<(), WrongLength> {
         put(&[&self.line.to_bytes(), &self.seconds.to_bytes()], out)
     }

@@ -26,6 +26,7 @@ impl Body for Charge {
         16
     }
 
+    #[inline]
     fn write(&self, out: &mut [u8]) -> Result<(), WrongLength> {
         put(
             &[

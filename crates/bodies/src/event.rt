@@ -59,6 +59,7 @@ impl Body for Event {
         9
     }
 
+    #[inline]
     fn write(&self, out: &mut [u8]) -> Result<(), WrongLength> {
         put(
             &[

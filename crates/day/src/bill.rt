@@ -31,11 +31,14 @@ impl Bill {
     pub fn total(&self) -> Total
         ensures { Totalled self.now.entries.items result.calls result.seconds }
     {
-        let calls = self.entries.iter().filter_map(Entry::call).count();
-        let seconds = self.entries.iter().filter_map(Entry::call).fold(
-            0u64,
-            |sum, call| sum.saturating_add(u64::from(call.seconds)),
-        );
+        let mut calls = 0;
+        let mut seconds = 0u64;
+        for entry in &self.entries {
+            if let Some(call) = entry.call() {
+                calls += 1;
+                seconds = seconds.saturating_add(u64::from(call.seconds));
+            }
+        }
         Total { calls, seconds }
     }
 

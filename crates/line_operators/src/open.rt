@@ -26,6 +26,7 @@ impl Body for Open {
         8
     }
 
+    #[inline]
     fn write(&self, out: &mut [u8]) -> Result<(), WrongLength> {
         put(&[&self.line.to_bytes(), &self.stamp.to_bytes()], out)
     }

@@ -59,7 +59,12 @@ impl<E: Row, const N: usize> Table<E, N> {
         requires { E.Key.within key }
         ensures { Place (λ e. E.Key.rank (E.key e)) (E.Key.rank key) self.now.rows.items result }
     {
-        self.rows.binary_search_by_key(&key, |row| row.key())
+        let rows = self.rows.as_slice();
+        match rows.iter().position(|row| row.key() >= key) {
+            Some(i) if rows[i].key() == key => Ok(i),
+            Some(i) => Err(i),
+            None => Err(rows.len()),
+        }
     }
 
     // The row of a key.

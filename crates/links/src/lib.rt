@@ -3,6 +3,7 @@
 
 pub mod link;
 pub mod packed_link;
+mod packing;
 mod padded;
 mod ring;
 pub mod slot_link;

@@ -79,7 +79,8 @@ impl<F: Operator, S: Operator<In = F::Out>> Operator for Pipe<F, S> {
         }
         let front = self.front.state_length();
         let back = self.back.state_length();
-        let whole = self.state_length();
+        // Each part's length is asked once.
+        let whole = front.saturating_add(back).saturating_add(4);
         if out.len() < whole {
             return None;
         }

@@ -7,8 +7,12 @@ use Rattle.script.specs.Bytes.{Without, front}
 use Rattle.script.specs.Lines.{lines, first_line, after_line, closed, Cut, LinesRight}
 use Rattle.script.proofs.Pieces.{byte_without}
 
--- a text that is not empty has its first line, and then the lines of what follows that
-lines_first : (text : List ℕ) → 1 ≤ length text → lines text ≡ first_line text ∷ lines (after_line text)
+-- an empty text has no line
+pub lines_none : lines [] ≡ []
+lines_none = refl
+
+-- any other text has its first line, and then the lines of what follows that
+pub lines_first : (text : List ℕ) → 1 ≤ length text → lines text ≡ first_line text ∷ lines (after_line text)
 lines_first [] some = absurd (omega arith)
 lines_first (b ∷ []) some = grind (arith, nat_tests)
 lines_first (b ∷ c ∷ cs) some = let more = lines_first (c ∷ cs) (omega arith) in grind (arith, nat_tests)
@@ -18,7 +22,7 @@ after_line_short [] = omega arith
 after_line_short (b ∷ bs) = let short = after_line_short bs in grind (arith, nat_tests)
 
 -- and what follows is shorter than the text
-after_line_shorter : (text : List ℕ) → 1 ≤ length text → length (after_line text) < length text
+pub after_line_shorter : (text : List ℕ) → 1 ≤ length text → length (after_line text) < length text
 after_line_shorter [] some = absurd (omega arith)
 after_line_shorter (b ∷ bs) some = let short = after_line_short bs in grind (arith, nat_tests)
 

@@ -16,8 +16,13 @@ pub fn read_rows<E: Row, const N: usize>(from: &[u8]) -> Option<ArrayVec<E, N>>
     ensures { MatchOption result ((xs : List E) → length xs ≤ N → listing E.bytes xs ≢ from.now) (λ rows. (length rows.items ≤ N) × (listing E.bytes rows.items ≡ from.now)) }
 {
     let (count, tail) = from.split_first()?;
+    let count = usize::from(*count);
+    // Too many rows are refused before any is read.
+    if count > N {
+        return None;
+    }
     let size = E::size();
-    if tail.len() != usize::from(*count) * size {
+    if tail.len() != count * size {
         return None;
     }
     let mut rows = ArrayVec::new();

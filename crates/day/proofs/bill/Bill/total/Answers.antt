@@ -1,28 +1,18 @@
-use Rattle.std.proofs.Common.{◌≡◌, ℕ, ◌+◌, ◌≤◌, min, List, [], ◌∷◌, arith, rules, ◌∙◌}
-use borrow.Author.Tests.{tests}
-use Rattle.std.specs.List.{fold}
-use Rattle.std.proofs.lemmas.List.Sums.{sum_by-cons}
-use Rattle.std.proofs.lemmas.Iterator.{YieldsList-from_slice}
-use Rattle.std.proofs.lemmas.Iterator.Consumers.{YieldsList-from_filter_map, YieldsList-at, count_from_yields_List, fold_from_yields_List}
+use Rattle.std.proofs.Common.{◌≡◌, ℕ, ◌+◌, ◌<◌, Option, List, [], ◌++◌, length, get_or, take, sym, ap, ◌∙◌, arith, length-append}
+use Rattle.std.specs.List.{cons_option}
+use Rattle.std.proofs.lemmas.List.{take_more}
+use Rattle.std.proofs.lemmas.List.Elements.{filter_map-append}
+use Rattle.std.proofs.lemmas.List.Sums.{sum_by-append}
 use Rattle.bodies.specs.declared.call.Call.{Call}
-use Rattle.line_operators.specs.Totals.{most_seconds}
-use Rattle.day.specs.Sums.{call_in, calls_in, seconds_of}
+use Rattle.day.specs.declared.entry.Entry.{Entry}
+use Rattle.day.specs.Sums.{call_in, calls_in}
 use Rattle.day.proofs.bill.Bill.total.Goals as goal
 
--- a sum that stops at its largest value
-abbrev more : ℕ → Call → ℕ
-more sum call = min (sum + call.seconds) most_seconds
+-- the calls so far, and the one that the entry at hand may show
+one_more : (xs : List Entry) (i : ℕ) (d : Entry) (shown : Option Call) → i < length xs → shown ≡ call_in (get_or xs i d) → calls_in (take (i + 1) xs) ≡ calls_in (take i xs) ++ cons_option shown []
+one_more xs i d shown within is = ap calls_in (take_more xs i d within) ∙ filter_map-append call_in (take i xs) _ ∙ ap (λ o. calls_in (take i xs) ++ cons_option o []) (sym is)
 
-stopping : (calls : List Call) (sum : ℕ) → sum ≤ most_seconds → fold more sum calls ≡ min (sum + seconds_of calls) most_seconds
-stopping [] sum within = omega arith
-stopping (c ∷ cs) sum within = stopping cs (more sum c) (omega arith) ∙ omega (arith, sum_by-cons (λ (d : Call). d.seconds) c cs)
-
-pub returns : goal.returns
-returns c =
-    let items = c.args.self.now.entries.items in
-    let calls = calls_in items in
-    let total : c.fold-seconds.result ≡ fold more 0 calls = fold_from_yields_List _ more 0 _ c.fold-seconds.ensures.ran (YieldsList-from_filter_map _ call_in (YieldsList-at c.filter_map-2.ensures.source (YieldsList-from_slice items cc)) c.filter_map-2.ensures.closure (λ x r q k. search (rules, tests))) (λ a x b q k. search (rules, tests)) in
-    record {
-      calls_are = count_from_yields_List c.filter_map.result _ c.count-calls.ensures.ran (YieldsList-from_filter_map _ call_in (YieldsList-at c.filter_map.ensures.source (YieldsList-from_slice items cc)) c.filter_map.ensures.closure (λ x r q k. search (rules, tests)));
-      seconds_are = omega (arith, total, stopping calls 0 (omega arith));
-    }
+pub loop-entry-preserved : goal.loop-entry-preserved
+loop-entry-preserved c =
+    let more = one_more c.deref-entry-items.result.now c.loop-entry.entry-index _ c.call.result c.loop-entry-test.true c.call.ensures in
+    grind (arith, more, length-append, sum_by-append)

@@ -9,11 +9,11 @@ use Rattle.line_operators.proofs.table.reading.read_rows.Given as given
 use Rattle.line_operators.proofs.table.reading.read_rows.Goals as goal
 use Rattle.line_operators.proofs.table.reading.read_rows.Goals.{In-Some}
 
-pub returns-then-tail-from : goal.returns-then-tail-from
-returns-then-tail-from g c xs few w =
+pub returns-then-tail-count : goal.returns-then-tail-count
+returns-then-tail-count g c xs few w =
     let e = w ∙ c.in_ok-count.ensures.cases.0 in
-    let count = ap (λ l. get_or l 0 0) e ∙ sym c.from.ensures in
-    c.if-tail-from.true (sym (ap (λ l. length (drop 1 l)) e) ∙ joined_long g.E.Body.laws xs ∙ (λ i. count i * sym c.size-size.ensures.is i))
+    let count = ap (λ l. get_or l 0 0) e ∙ sym c.from-count.ensures in
+    c.if-tail-count.true (sym (ap (λ l. length (drop 1 l)) e) ∙ joined_long g.E.Body.laws xs ∙ (λ i. count i * sym c.size-size.ensures.is i))
 
 pub loop-chunk-init : goal.loop-chunk-init
 loop-chunk-init g c = grind (arith, common_steps, ap (drop 1) c.in_ok-count.ensures.cases.0)
@@ -53,5 +53,5 @@ pub returns : goal.returns
 returns g c =
     let e = c.in_ok-count.ensures.cases.0 in
     let none = c.in-None.ensures.steps.1 in
-    let long = c.if-tail-from.false ∙ (λ i. c.from.ensures i * c.size-size.ensures.is i) in
+    let long = c.if-tail-count.false ∙ (λ i. c.from-count.ensures i * c.size-size.ensures.is i) in
     (c.loop-chunk.invariant.few, all_read g.E.Body.laws c.loop-chunk.rows.items (chunks_exact_rest c.loop-chunk.chunk-iterator) c.in_ok-count.tail.now c.in_ok-count.count.now (c.loop-chunk.invariant.read ∙ ap (drop 1) e) (omega (arith, none.0, c.loop-chunk.invariant.size)) long ∙ sym e)

@@ -5,6 +5,17 @@ use Rattle.operators.specs.Operators.{unbounded}
 use Rattle.operators.proofs.Laying.{laid_exact, part_long, laid_more, laid_long}
 use Rattle.operators.proofs.pipe.PipeOperator.write_state.Goals as goal
 
+pub returns-then-out-whole-clause-refused : goal.returns-then-out-whole-clause-refused
+returns-then-out-whole-clause-refused g c = λ small none.
+    let s = g.F.Operator.state c.args.self.now.front in
+    let t = g.S.Operator.state c.args.self.now.back in
+    let f = c.state_length-front.ensures (omega arith) in
+    let b = c.state_length-back.ensures (omega arith) in
+    let fl = g.F.Operator.laws.within (omega arith) s in
+    let bl = g.S.Operator.laws.within (omega arith) t in
+    let l = length-append (g.F.Operator.written s) (g.S.Operator.written t) in
+    omega (arith, c.saturating_add.ensures, c.saturating_add-whole.ensures, c.if-out-whole.true)
+
 pub returns-clause-laid : goal.returns-clause-laid
 returns-clause-laid g c =
     let s = g.F.Operator.state c.args.self.now.front in
@@ -12,7 +23,7 @@ returns-clause-laid g c =
     let a = g.F.Operator.written s in
     let b = g.S.Operator.written t in
     let n = c.state_length-front.result in
-    let whole = c.state_length-whole.result in
+    let whole = c.saturating_add-whole.result in
     let out = c.args.out.now in
     let small : min (4 + g.F.Operator.longest + g.S.Operator.longest) unbounded < unbounded = omega (arith, c.longest.ensures, c.if-longest.false) in
     let f : n ≡ length a = c.state_length-front.ensures (omega arith) in
@@ -20,7 +31,7 @@ returns-clause-laid g c =
     let fl = g.F.Operator.laws.within (omega arith) s in
     let bl = g.S.Operator.laws.within (omega arith) t in
     let l = length-append a b in
-    let total : whole ≡ 4 + n + length b = let w = c.state_length-whole.ensures small in omega arith in
+    let total : whole ≡ 4 + n + length b = omega (arith, c.saturating_add.ensures, c.saturating_add-whole.ensures) in
     let fits : whole ≤ length out = omega (arith, c.if-out-whole.false) in
     let x : c.copy_from_slice.new.self ≡ be32 n = c.copy_from_slice.ensures.after ∙ c.to_bytes.ensures in
     let one = put_mid 0 4 out c.copy_from_slice.new.self in
